@@ -4,6 +4,7 @@
 #              other, with a request list, where packets, times and answers are known already
 #   late       the same, with packets that come too late
 #   short      5,000 connections of twelve messages each
+#   256, 65000 one connection with so many calls outstanding, whose replies come oldest first
 #   segments   ten times as many octets in small segments of 200 connections by turns, in order, of messages that have no
 #              lines: what packets, segments and flows take
 #   beside     a capture that is twenty times smaller, on which the giopcap of the first line and `tshark -V` run, where
@@ -85,6 +86,17 @@ END
     heading "$sort"
     figures giopcap "$size"
     [ "$sort" != long ] || figures giopdump "$size"
+    echo
+done
+
+for calls in 256 65000; do
+    python3 "$top/bench/outstanding.py" oldest "$calls" $((octets / 200)) >"$work/capture"
+    size=$(wc -c <"$work/capture")
+    for _ in 1 2 3 4 5; do
+        run giopcap "$work/capture" "$giopcap" --connections 1 --calls 65536
+    done
+    heading "$calls"
+    figures giopcap "$size"
     echo
 done
 

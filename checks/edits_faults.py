@@ -18,8 +18,8 @@ TOP = Path(__file__).resolve().parent.parent
 # A contract, and what it is weakened to.
 CONTRACT = (
     "src/reading.rt",
-    "drop at octets.now ≡ n ∷ rest → result ≡ n }",
-    "drop at octets.now ≡ n ∷ rest → result ≡ result }",
+    "drop offset octets.now ≡ n ∷ rest → result ≡ n }",
+    "drop offset octets.now ≡ n ∷ rest → result ≡ result }",
 )
 
 # Answers that are put into the copy: the function's folder, and for each goal what the answer is.
@@ -37,7 +37,7 @@ EDITS = [
      "refused in writing::put_zeros"),
     ("changes_no_meaning", "src/writing.rt", "put_octets(out, &u32::to_be_bytes(n));", "put_octets(out, &n.to_be_bytes());", None,
      "not refused in writing::put_four"),
-    ("has_a_weaker_contract", "src/reading.rt", "    octets[at]", "    octets[0]", None,
+    ("has_a_weaker_contract", "src/reading.rt", "    octets[offset]", "    octets[0]", None,
      "not refused in reading::octet_at"),
     ("changes_nothing", "src/writing.rt", "for _ in 0..count", "for _ in 0..count", None,
      "it changes nothing"),
@@ -55,7 +55,7 @@ EDITS = [
      "writing::put_zeros or a line of it has two edits before it"),
     ("takes_an_invariant_away", "src/writing.rt", "for octet in octets {", "for one in octets { let octet = one;", None,
      "takes a name away in writing::put_octets, and no goal refuses it"),
-    ("takes_a_goal_away", "src/reading.rt", "Some(four_at(octets, at + 1))", "let n = four_at(octets, at + 1); Some(n)", None,
+    ("takes_a_goal_away", "src/reading.rt", "Some(four_at(octets, offset + 1))", "let n = four_at(octets, offset + 1); Some(n)", None,
      "takes a name away in reading::optional_at, and no goal refuses it"),
     ("is_refused_by_another_goal", "src/writing.rt", "put_octets(out, octets);", "put_zeros(out, octets.len());", None,
      "refused in writing::put_held by `returns-clause-put`"),

@@ -47,7 +47,8 @@ root=${1:-}
 cd "$root/usr/share/doc/giopdump"
 PATH=$root/usr/bin:$PATH
 folder=$(mktemp -d)
-giopdump --signatures examples/naming.sig examples/naming.giop | grep -qx 'm6 body.n\[0\].id string @0 "shop"'
+giopdump --signatures examples/naming.sig examples/naming.giop > "$folder/lines"
+grep -qx 'm6 body.n\[0\].id string @0 "shop"' "$folder/lines"
 giopdump examples/naming.giop > "$folder/lines"
 grep -q '"operation":"resolve"' <(giop-json "$folder/lines")
 grep -q '^resolve ' <(giop-stat "$folder/lines")
@@ -57,7 +58,8 @@ giopcap --signatures examples/naming.sig examples/session.pcap > "$folder/lines"
 grep -qE '^s6 m2 answers s5 m2 resolve after 0\.[0-9]{9}$' "$folder/lines"
 grep -q '^key "4e616d6553657276696365" of "IDL:' <(giop-keys "$folder/lines")
 grep -q '"operation":"resolve"' <(giop-json "$folder/lines")
-gzip -cd "$root/usr/share/man/man1/giopdump.1.gz" | grep -q '^.Dt GIOPDUMP'
+gzip -cd "$root/usr/share/man/man1/giopdump.1.gz" > "$folder/page"
+grep -q '^.Dt GIOPDUMP' "$folder/page"
 echo 'interface Clock { long now(in string zone); };' > "$folder/clock.idl"
 omniidl -bgiopdump_signatures "$folder/clock.idl" > "$folder/clock.sig"
 grep -qx 'operation long now(in string zone);' "$folder/clock.sig"

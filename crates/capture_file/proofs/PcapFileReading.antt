@@ -61,12 +61,13 @@ magic_of f = record { order = f.order; unit = nanoseconds_in f.fractions }
 abbrev header_of : PcapFile → FileHeader
 header_of f = record { magic = magic_of f; link = f.link % 2 ^ 16 }
 
-abbrev due_in : Part → ℕ → Reading
-due_in part at =
+abbrev reading_up_to : (part : Part) (offset : ℕ) → Reading
+reading_up_to part at =
     record { packets = []; ending = Within (record { part = part; interfaces = [] }) at [] }
 
 reads_magic : (order : ByteOrder) (fractions : Fractions) → reading (magic_octets order fractions)
-    ≡ due_in (parts.FileVersion (record { order = order; unit = nanoseconds_in fractions })) 4
+    ≡ reading_up_to (parts.FileVersion (record { order = order; unit = nanoseconds_in fractions }))
+    4
 unfolding reading reading_from beginning four_at
 reads_magic Big Microseconds = refl
 reads_magic Big Nanoseconds = refl
@@ -84,9 +85,9 @@ major_long Big = refl
 major_long Little = refl
 
 reads_version : (f : PcapFile) (p q : List ℕ) (at : ℕ) →
-    reading p ≡ due_in (parts.FileVersion (magic_of f)) at →
+    reading p ≡ reading_up_to (parts.FileVersion (magic_of f)) at →
     q ≡ major_octets f.order ++ f.minor → length f.minor ≡ 2
-    → reading (p ++ q) ≡ due_in (parts.FileRest (magic_of f)) (length (p ++ q))
+    → reading (p ++ q) ≡ reading_up_to (parts.FileRest (magic_of f)) (length (p ++ q))
 reads_version f p q at r e minor =
     let all : length q ≡ 4 =
     ap length e ∙ omega (
@@ -104,9 +105,9 @@ reads_version f p q at r e minor =
     ∙ rw (is, r) refl
 
 reads_rest_of_header : (f : PcapFile) (p q : List ℕ) (at : ℕ) → IsPcapFile f →
-    reading p ≡ due_in (parts.FileRest (magic_of f)) at →
+    reading p ≡ reading_up_to (parts.FileRest (magic_of f)) at →
     q ≡ f.unused ++ number_octets f.order f.link
-    → reading (p ++ q) ≡ due_in (parts.RecordHeader (header_of f)) (length (p ++ q))
+    → reading (p ++ q) ≡ reading_up_to (parts.RecordHeader (header_of f)) (length (p ++ q))
 unfolding file_rest
 reads_rest_of_header f p q at h r e =
     let all : length q ≡ 16 =
@@ -137,7 +138,7 @@ header_long : (f : PcapFile) → IsPcapFile f → length (header_octets f) ≡ 2
 header_long f h = search (arith, length-append, magic_long, major_long, long)
 
 reads_file_header : (f : PcapFile) → IsPcapFile f → reading (header_octets f)
-    ≡ due_in (parts.RecordHeader (header_of f)) (length (header_octets f))
+    ≡ reading_up_to (parts.RecordHeader (header_of f)) (length (header_octets f))
 reads_file_header f h =
     let m : List ℕ = magic_octets f.order f.fractions in
     let v : List ℕ = major_octets f.order ++ f.minor in
@@ -147,7 +148,7 @@ reads_file_header f h =
 
 -- ---- A record.
 
-abbrev info_of : PcapFile → PcapRecord → PacketInfo
+abbrev info_of : (file : PcapFile) (pcap_record : PcapRecord) → PacketInfo
 info_of f r = record {
   link = f.link % 2 ^ 16;
   time = Some (r.seconds * 1000000000 + r.fraction * nanoseconds_in f.fractions);

@@ -90,7 +90,7 @@ reads_blocks o (b ∷ bs) p given interfaces h r =
 
 -- ---- The section header.
 
-abbrev lengths_of : List ℕ → LengthByOrder
+abbrev lengths_of : (q : List ℕ) → LengthByOrder
 lengths_of q = record { big = four_at Big 0 q; little = four_at Little 0 q }
 
 big_order : four_at Big 0 (order_octets Big) ≡ 0x1a2b3c4d

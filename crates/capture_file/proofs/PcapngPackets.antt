@@ -13,19 +13,19 @@ use Rattle.capture_file.specs.declared.part.Outcome.TheVariants.{Continues, Ends
 use Rattle.capture_file.specs.Parts.{size}
 use Rattle.capture_file.specs.Reading.{PacketRecord, reading}
 use Rattle.capture_file.specs.Numbers.{four_at}
-use Rattle.capture_file.specs.Blocks.{section_type, least_length, block_of, block_end, simple_header, cut, enhanced_interface, enhanced_header, packet_of, time_of}
+use Rattle.capture_file.specs.Blocks.{section_type, least_length, block_of, block_end, simple_header, captured_size, enhanced_interface, enhanced_header, packet_of, time_of}
 use Rattle.capture_file.specs.PcapFiles.{number_octets}
 use Rattle.capture_file.specs.PcapngFiles.{EnhancedBlock, SimpleBlock, OtherBlock, length_of, block_octets, IsBlock}
 use Rattle.capture_file.proofs.PcapFileReading.{long, spells, first_four, second_four, last_four}
-use Rattle.capture_file.proofs.PcapngParts.{due, on, on_packet, alone, end_is, infos, in_block}
+use Rattle.capture_file.proofs.PcapngParts.{due, on, on_packet, alone, end_is, infos, block_with_left}
 
 -- ---- A packet.
 
-abbrev packet_info : Interface → ℕ → ℕ → PacketInfo
+abbrev packet_info : (interface : Interface) (high low : ℕ) → PacketInfo
 packet_info i high low =
     record { link = i.link; time = time_of (high * 2 ^ 32 + low) i.ticks }
 
-abbrev packet_body : Interface → ℕ → ℕ → ℕ → Body
+abbrev packet_body : (interface : Interface) (high low captured : ℕ) → Body
 packet_body i high low captured =
     record { info = packet_info i high low; packet_offset = 4; captured = captured }
 
@@ -160,7 +160,7 @@ shift_simple : (p a b d e : List ℕ) → ((p ++ a) ++ b) ++ (d ++ e)
     ≡ p ++ (a ++ ((b ++ d) ++ e))
 shift_simple p a b d e = search (arith, append_assoc)
 
-abbrev simple_body : Interface → ℕ → Body
+abbrev simple_body : (interface : Interface) (captured : ℕ) → Body
 simple_body i captured = record {
   info = record { link = i.link; time = None };
   packet_offset = 0;
@@ -168,15 +168,15 @@ simple_body i captured = record {
 }
 
 simple_space : (o : ByteOrder) (size left count : ℕ) → size - 16 ≡ left →
-    block_of o 3 size count ≡ Continues (parts.SimpleHeader (in_block o size left))
+    block_of o 3 size count ≡ Continues (parts.SimpleHeader (block_with_left o size left))
 unfolding block_of
 simple_space o size left count is = rw is refl
 
 simple_is : (o : ByteOrder) (interfaces : List Interface) (i : Interface)
     (size original captured rest : ℕ) → original < 2 ^ 32 → captured ≤ 262144 →
-    slice_get interfaces 0 ≡ Some i → captured ≡ cut original i.snapshot →
-    simple_header (in_block o size (captured + rest)) interfaces (number_octets o original)
-    ≡ Continues (parts.Packet (in_block o size rest) (simple_body i captured))
+    slice_get interfaces 0 ≡ Some i → captured ≡ captured_size original i.snapshot →
+    simple_header (block_with_left o size (captured + rest)) interfaces (number_octets o original)
+    ≡ Continues (parts.Packet (block_with_left o size rest) (simple_body i captured))
 unfolding simple_header packet_of
 simple_is o interfaces i size original captured rest small few here is = search (
   arith,
@@ -188,7 +188,7 @@ simple_is o interfaces i size original captured rest small few here is = search 
 pub reads_simple : (o : ByteOrder) (original : ℕ) (octets behind : List ℕ) (i : Interface)
     (p : List ℕ) (given : List PacketRecord) (interfaces : List Interface) (at : ℕ) →
     IsBlock o interfaces (SimpleBlock original octets behind) →
-    slice_get interfaces 0 ≡ Some i → length octets ≡ cut original i.snapshot →
+    slice_get interfaces 0 ≡ Some i → length octets ≡ captured_size original i.snapshot →
     reading p ≡ due given (parts.BlockHeader o) interfaces at →
     reading (p ++ block_octets o (SimpleBlock original octets behind))
     ≡ due (given ++ record {
@@ -209,23 +209,24 @@ reads_simple o original octets behind i p given interfaces at h here captured r 
     let there : length D ≡ 0 + length octets + length behind =
     omega (arith, length-append octets behind) in
     let one = infos o 3 size p given
-    (parts.SimpleHeader (in_block o size (length octets + length behind))) interfaces at
+    (parts.SimpleHeader (block_with_left o size (length octets + length behind))) interfaces at
     (omega arith) h.4 refl (omega (arith, size_is))
     (simple_space o size (length octets + length behind) (length interfaces)
     (omega (arith, size_is))) r in
     let two = on (p ++ A) B given
-    (parts.SimpleHeader (in_block o size (length octets + length behind)))
-    (parts.Packet (in_block o size (length behind)) (simple_body i (length octets))) interfaces
+    (parts.SimpleHeader (block_with_left o size (length octets + length behind)))
+    (parts.Packet (block_with_left o size (length behind)) (simple_body i (length octets)))
+    interfaces
     (length (p ++ A)) one (long o original)
-    (ap (simple_header (in_block o size (length octets + length behind)) interfaces)
+    (ap (simple_header (block_with_left o size (length octets + length behind)) interfaces)
     (take_all 4 B (omega (arith, long o original)))
     ∙ simple_is o interfaces i size original (length octets) (length behind) h.2 h.3 here captured)
     in
     let three = on_packet ((p ++ A) ++ B) (D ++ E) given
-    (parts.Packet (in_block o size (length behind)) (simple_body i (length octets)))
+    (parts.Packet (block_with_left o size (length behind)) (simple_body i (length octets)))
     (parts.BlockHeader o) info interfaces (length ((p ++ A) ++ B)) two
     (omega (arith, length-append D E, there, long o size))
-    (ap (λ (xs : List ℕ). block_end (in_block o size (length behind)) xs
+    (ap (λ (xs : List ℕ). block_end (block_with_left o size (length behind)) xs
     (EndsPacket info (parts.BlockHeader o)))
     (last_four (0 + length octets + length behind) D E there (long o size))
     ∙ end_is o size (length behind) (EndsPacket info (parts.BlockHeader o)) h.4.few) in

@@ -13,7 +13,7 @@ use Rattle.capture_file.specs.declared.part.PacketInfo.{PacketInfo}
 use Rattle.capture_file.specs.declared.part.Outcome.{Outcome}
 use Rattle.capture_file.specs.declared.part.Outcome.TheVariants.{Continues, EndsPacket}
 use Rattle.capture_file.specs.Parts.{size}
-use Rattle.capture_file.specs.Format.{next, interfaces_behind}
+use Rattle.capture_file.specs.Format.{outcome_after, interfaces_behind}
 use Rattle.capture_file.specs.Reading.{PacketRecord, Within, Reading, reading, end_of, packet_in}
 use Rattle.capture_file.specs.Numbers.{two_at, four_at}
 use Rattle.capture_file.specs.Blocks.{section_type, least_length, block_of, block_header, block_end}
@@ -25,7 +25,8 @@ use Rattle.capture_file.proofs.ReadingSteps.{completes}
 -- ---- One more part.
 
 -- a reading that has given these packets, and in which this part comes next
-abbrev pub due : List PacketRecord → Part → List Interface → ℕ → Reading
+abbrev pub due : (given : List PacketRecord) (part : Part) (interfaces : List Interface)
+    (offset : ℕ) → Reading
 due given part interfaces at = record {
   packets = given;
   ending = Within (record { part = part; interfaces = interfaces }) at [];
@@ -33,7 +34,7 @@ due given part interfaces at = record {
 
 pub on : (p q : List ℕ) (given : List PacketRecord) (part more : Part) (interfaces : List Interface)
     (at : ℕ) → reading p ≡ due given part interfaces at → length q ≡ size part →
-    next part interfaces (end_of part q) ≡ Continues more →
+    outcome_after part interfaces (end_of part q) ≡ Continues more →
     reading (p ++ q) ≡ due given more (interfaces_behind part interfaces) (length (p ++ q))
 on p q given part more interfaces at r all is =
     completes p q (record { part = part; interfaces = interfaces }) at []
@@ -42,7 +43,7 @@ on p q given part more interfaces at r all is =
 
 pub on_packet : (p q : List ℕ) (given : List PacketRecord) (part more : Part) (info : PacketInfo)
     (interfaces : List Interface) (at : ℕ) → reading p ≡ due given part interfaces at →
-    length q ≡ size part → next part interfaces (end_of part q) ≡ EndsPacket info more →
+    length q ≡ size part → outcome_after part interfaces (end_of part q) ≡ EndsPacket info more →
     reading (p ++ q) ≡ due (given
     ++ record { place = length (p ++ q); info = info; octets = packet_in part q } ∷ []) more
     (interfaces_behind part interfaces) (length (p ++ q))
@@ -115,5 +116,5 @@ infos o kind size p given more interfaces at small h other least is r =
     (ap (block_header o (length interfaces)) (take_all 8 q (omega (arith, all)))
     ∙ header_is o kind size (length interfaces) small h other least ∙ is)
 
-abbrev pub in_block : ByteOrder → ℕ → ℕ → Block
-in_block o size left = record { order = o; length = size; left = left }
+abbrev pub block_with_left : (order : ByteOrder) (size left : ℕ) → Block
+block_with_left o size left = record { order = o; length = size; left = left }

@@ -9,7 +9,7 @@ use Rattle.capture_file.specs.declared.part.Part.TheVariants as parts
 use Rattle.capture_file.specs.declared.part.Outcome.{Outcome}
 use Rattle.capture_file.specs.declared.part.Outcome.TheVariants.{Continues, EndsPacket, Fails}
 use Rattle.capture_file.specs.Parts.{size}
-use Rattle.capture_file.specs.Format.{next}
+use Rattle.capture_file.specs.Format.{outcome_after}
 use Rattle.capture_file.specs.Reading.{PacketRecord, ParserState, Ending, Within, Faulted, Reading, end_of, packet_in, behind, reading_from, reading, fault_of}
 use Rattle.capture_file.specs.Laws.{PacketsBegin, FaultStays}
 
@@ -29,7 +29,7 @@ short (suc most) state at p less = search (arith, leb_tells)
 pub whole : (most : ℕ) (state : ParserState) (at : ℕ) (p : List ℕ) → size state.part ≤ length p →
     reading_from (suc most) state at p
     ≡ behind state (packet_in state.part p) (at + size state.part)
-    (next state.part state.interfaces (end_of state.part p))
+    (outcome_after state.part state.interfaces (end_of state.part p))
     (λ rest. reading_from most rest (at + size state.part) (drop (size state.part) p))
 unfolding reading_from
 whole most state at p enough = search (arith, leb_tells)
@@ -59,25 +59,25 @@ enough (suc n) (suc m) state at p few many =
     ]
 
 -- a reading with these packets before its own
-abbrev pub with_packets : List PacketRecord → Reading → Reading
+abbrev pub with_packets : (given : List PacketRecord) (reading : Reading) → Reading
 with_packets given r = record r { packets = given ++ r.packets }
 
 -- how a reading that ended goes on with more octets
-abbrev pub onward : List PacketRecord → Ending → List ℕ → Reading
-onward given (Within state at had) q =
+abbrev pub read_on : (given : List PacketRecord) (ending : Ending) (q : List ℕ) → Reading
+read_on given (Within state at had) q =
     with_packets given (reading_from (length (had ++ q)) state at (had ++ q))
-onward given (Faulted fault) q = record { packets = given; ending = Faulted fault }
+read_on given (Faulted fault) q = record { packets = given; ending = Faulted fault }
 
 onward_more : (g : PacketRecord) (given : List PacketRecord) (e : Ending) (q : List ℕ) →
-    with_packets (g ∷ []) (onward given e q) ≡ onward (g ∷ given) e q
+    with_packets (g ∷ []) (read_on given e q) ≡ read_on (g ∷ given) e q
 onward_more g given (Within state at had) q = refl
 onward_more g given (Faulted fault) q = refl
 
 behind_onward : (state : ParserState) (packet : List ℕ) (place : ℕ) (o : Outcome)
     (k l : ParserState → Reading) (q : List ℕ) →
-    ((d : ParserState) → l d ≡ onward (k d).packets (k d).ending q) →
+    ((d : ParserState) → l d ≡ read_on (k d).packets (k d).ending q) →
     behind state packet place o l
-    ≡ onward (behind state packet place o k).packets (behind state packet place o k).ending q
+    ≡ read_on (behind state packet place o k).packets (behind state packet place o k).ending q
 behind_onward state packet place (Continues part) k l q each = each _
 behind_onward state packet place (EndsPacket info part) k l q each = search (arith, onward_more)
 behind_onward state packet place (Fails kind) k l q each = refl
@@ -94,13 +94,13 @@ end_same part p q enough = search (arith, drop, length-drop, drop-append-le, tak
 grows_short : (n m : ℕ) (state : ParserState) (at : ℕ) (p q : List ℕ) → length (p ++ q) ≤ m →
     length p < size state.part →
     reading_from m state at (p ++ q)
-    ≡ onward (reading_from n state at p).packets (reading_from n state at p).ending q
+    ≡ read_on (reading_from n state at p).packets (reading_from n state at p).ending q
 grows_short n m state at p q many less = search (arith, short, enough)
 
 pub grows_from : (n m : ℕ) (state : ParserState) (at : ℕ) (p q : List ℕ) → length p ≤ n →
     length (p ++ q) ≤ m →
     reading_from m state at (p ++ q)
-    ≡ onward (reading_from n state at p).packets (reading_from n state at p).ending q
+    ≡ read_on (reading_from n state at p).packets (reading_from n state at p).ending q
 grows_from zero m state at p q few many = search (arith, size_some, grows_short)
 grows_from (suc n) zero state at p q few many = search (
   arith,
@@ -124,21 +124,21 @@ grows_from (suc n) (suc m) state at p q few many =
                 p q begun,
           )
           (behind_onward state (packet_in state.part p) (at + s)
-          (next state.part state.interfaces (end_of state.part p))
+          (outcome_after state.part state.interfaces (end_of state.part p))
           (λ d. reading_from n d (at + s) (drop s p))
           (λ d. reading_from m d (at + s) (drop s p ++ q)) q
           (λ d. grows_from n m d (at + s) (drop s p) q
           (simp length-drop (omega arith))
           (rw (length-append, length-drop) (omega (arith, length-append p q)))))
-          ∙ ap (λ (r : Reading). onward r.packets r.ending q) (sym (whole n state at p begun))
+          ∙ ap (λ (r : Reading). read_on r.packets r.ending q) (sym (whole n state at p begun))
     ]
 
-pub grows : (p q : List ℕ) → reading (p ++ q) ≡ onward (reading p).packets (reading p).ending q
+pub grows : (p q : List ℕ) → reading (p ++ q) ≡ read_on (reading p).packets (reading p).ending q
 unfolding reading
 grows p q = search (arith, grows_from)
 
 begun_with : (given : List PacketRecord) (e : Ending) (q : List ℕ) → (more : List PacketRecord)
-    × ((onward given e q).packets ≡ given ++ more)
+    × ((read_on given e q).packets ≡ given ++ more)
 begun_with given (Within state at had) q = (_, refl)
 begun_with given (Faulted fault) q = ([], sym (append-nil given))
 
@@ -149,19 +149,19 @@ packets_begin p q =
 
 go : (given : List PacketRecord) (e : Ending) (q : List ℕ) (f : CaptureFault) →
     fault_of e ≡ Some f →
-    onward given e q ≡ record { packets = given; ending = e }
+    read_on given e q ≡ record { packets = given; ending = e }
 go given (Within state at had) q f is = cc
 go given (Faulted fault) q f is = refl
 
 stays : (r : Reading) (q : List ℕ) (f : CaptureFault) → fault_of r.ending ≡ Some f →
-    onward r.packets r.ending q ≡ r
+    read_on r.packets r.ending q ≡ r
 stays r q f is = go r.packets r.ending q f is
 
 pub fault_stays : FaultStays
 fault_stays p q f is = search (arith, grows, stays)
 
 -- the part that has begun is at its place, and isn't complete
-abbrev pub EndsAt : ℕ → Ending → Type 0
+abbrev pub EndsAt : (place : ℕ) (ending : Ending) → Type 0
 EndsAt place (Within state at had) = (at + length had ≡ place) × (length had < size state.part)
 EndsAt place (Faulted fault) = fault.place ≤ place
 
@@ -184,7 +184,7 @@ ends_from (suc n) state at p few =
           let s = size state.part in
           let begun : s ≤ length p = omega arith in
           rw (whole n state at p begun) (behind_ends state (packet_in state.part p) (at + s)
-          (next state.part state.interfaces (end_of state.part p))
+          (outcome_after state.part state.interfaces (end_of state.part p))
           (λ d. reading_from n d (at + s) (drop s p))
           (at + length p) (omega arith) (λ d.
           let same : (at + s) + length (drop s p) ≡ at + length p =
@@ -208,7 +208,7 @@ pub completes : (p q : List ℕ) (state : ParserState) (at : ℕ) (had : List �
     (reading p).ending ≡ Within state at had →
     length (had ++ q) ≡ size state.part → reading (p ++ q) ≡ with_packets (reading p).packets
     (behind state (packet_in state.part (had ++ q)) (length (p ++ q))
-    (next state.part state.interfaces (end_of state.part (had ++ q)))
+    (outcome_after state.part state.interfaces (end_of state.part (had ++ q)))
     (λ d. record { packets = []; ending = Within d (length (p ++ q)) [] }))
 completes p q state at had is all =
     let some : 1 ≤ size state.part = size_some state.part in
@@ -220,7 +220,7 @@ completes p q state at had is all =
     (omega arith)
     ∙ whole (length (had ++ q)) state at (had ++ q) (omega arith)
     ∙ rw place (behind_same state (packet_in state.part (had ++ q)) (length (p ++ q))
-    (next state.part state.interfaces (end_of state.part (had ++ q)))
+    (outcome_after state.part state.interfaces (end_of state.part (had ++ q)))
     (λ d. reading_from (length (had ++ q)) d (length (p ++ q)) (drop (size state.part) (had ++ q)))
     (λ d. record { packets = []; ending = Within d (length (p ++ q)) [] }) (λ d.
     let none : drop (size state.part) (had ++ q) ≡ [] =

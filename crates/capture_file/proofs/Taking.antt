@@ -7,9 +7,9 @@ use Rattle.capture_file.specs.declared.part.Outcome.TheVariants.{Continues, Ends
 use Rattle.capture_file.specs.declared.progress.Progress.{Progress}
 use Rattle.capture_file.specs.declared.progress.Progress.TheVariants as progress
 use Rattle.capture_file.specs.Parts.{front, passed, back, packet_offset, size}
-use Rattle.capture_file.specs.Format.{next, interfaces_behind}
+use Rattle.capture_file.specs.Format.{outcome_after, interfaces_behind}
 use Rattle.capture_file.specs.Reading.{ParserState, Ending, Within, Faulted, Reading, end_of, packet_in, behind, reading, packets, fault_of}
-use Rattle.capture_file.specs.CaptureState.{Reads, HoldsPart, Stands, Answers}
+use Rattle.capture_file.specs.CaptureState.{Reads, HoldsPart, HoldsEnding, Answers}
 use Rattle.capture_file.specs.CaptureSteps.{Completes, HoldsPiece, PartBegins}
 use Rattle.capture_file.specs.Window.{IsHeld}
 use Rattle.capture_file.proofs.WindowLemmas.{held_all}
@@ -17,25 +17,26 @@ use Rattle.capture_file.proofs.Sizes.{back_few, packet_offset_few}
 use Rattle.capture_file.proofs.ReadingSteps.{with_packets, stays_within, completes}
 
 -- the part that has begun in a capture, and the octets of it that have come
-pub record Begun (p : List ℕ) (c : Capture) : Type 0 where
+pub record HasPartBegun (octets_taken : List ℕ) (capture : Capture) : Type 0 where
   pub state : ParserState
   pub at : ℕ
   pub had : List ℕ
-  pub ending : (reading p).ending ≡ Within state at had
-  pub holds : HoldsPart c state had
+  pub ending : (reading octets_taken).ending ≡ Within state at had
+  pub holds : HoldsPart capture state had
 
-begun_in : (p : List ℕ) (c : Capture) (e : Ending) → (reading p).ending ≡ e → Stands c e →
-    c.fault ≡ None → Begun p c
+begun_in : (p : List ℕ) (c : Capture) (e : Ending) → (reading p).ending ≡ e → HoldsEnding c e →
+    c.fault ≡ None → HasPartBegun p c
 begun_in p c (Within state at had) is stands running = search (arith)
 begun_in p c (Faulted f) is stands running = cc
 
-pub begun : (p : List ℕ) (c : Capture) → Reads c p → c.fault ≡ None → Begun p c
+pub begun : (p : List ℕ) (c : Capture) → Reads c p → c.fault ≡ None → HasPartBegun p c
 begun p c r running = search (arith, begun_in)
 
 -- octets were taken: what the capture has read after them, and what it answers
-pub record Takes (answer : Progress) (p q : List ℕ) (c : Capture) (octets : List ℕ) : Type 0 where
-  pub reads : Reads c (p ++ q)
-  pub answers : Answers answer p q c octets
+pub record HasTaken (answer : Progress) (before taken : List ℕ) (capture : Capture)
+    (octets : List ℕ) : Type 0 where
+  pub reads : Reads capture (before ++ taken)
+  pub answers : Answers answer before taken capture octets
 
 piece_held : (old mid : Capture) (q : List ℕ) (state : ParserState) (had : List ℕ) →
     HoldsPart old state had → HoldsPiece old mid q →
@@ -49,7 +50,7 @@ held_of : (p q octets : List ℕ) (old new : Capture) (state : ParserState) (at 
     HoldsPiece old new q →
     new.taken ≡ old.taken + length q → new.octets ≡ old.octets + length q →
     old.taken + length q < size old.part →
-    Takes progress.More p q new octets
+    HasTaken progress.More p q new octets
 held_of p q octets old new state at had r ending holds running kept taken count less =
     let same : size old.part ≡ size state.part = ap size holds.part in
     let short : length (had ++ q) < size state.part =
@@ -76,7 +77,7 @@ pub takes_piece : (p q octets : List ℕ) (old new : Capture) → Reads old p �
     HoldsPiece old new q →
     new.taken ≡ old.taken + length q → new.octets ≡ old.octets + length q →
     old.taken + length q < size old.part →
-    Takes progress.More p q new octets
+    HasTaken progress.More p q new octets
 takes_piece p q octets old new r running kept taken count less =
     let b = begun p old r running in
     held_of p q octets old new b.state b.at b.had r b.ending b.holds running kept taken count less
@@ -88,7 +89,8 @@ holds_none : (mid new : Capture) (state next : ParserState) → mid.fault ≡ No
 holds_none mid new state next running begins behind_is part interfaces = search (arith)
 
 -- the reading after the part, up to where the next part begins
-abbrev pub behind_here : ParserState → List ℕ → ℕ → Outcome → Reading
+abbrev pub behind_here : (state : ParserState) (packet : List ℕ) (place : ℕ)
+    (outcome : Outcome) → Reading
 behind_here state packet place o =
     behind state packet place o (λ d. record { packets = []; ending = Within d place [] })
 
@@ -101,7 +103,7 @@ pub takes_outcome : (p q octets : List ℕ) (mid new : Capture) (answer : Progre
     mid.packets ≡ length (packets p) → mid.octets ≡ length (p ++ q) →
     slice_range (if held then mid.packet_octets.items
     else octets) (start + packet_offset mid.part) (start + front mid.part) ≡ packet →
-    Completes o mid new answer start held → Takes answer p q new octets
+    Completes o mid new answer start held → HasTaken answer p q new octets
 takes_outcome p q octets mid new answer start held state packet (Continues part) is a b running
     count place slice c = search (arith, append-nil, holds_none)
 takes_outcome p q octets mid new answer start held state packet (EndsPacket info part) is a b
@@ -120,8 +122,8 @@ whole_of : (p q octets end : List ℕ) (old mid new : Capture) (answer : Progres
     slice_range (if held then mid.packet_octets.items
     else octets) (start + packet_offset state.part) (start + front state.part)
     ≡ packet_in state.part (had ++ q) →
-    Completes (next mid.part mid.interfaces.items end) mid new answer start held →
-    Takes answer p q new octets
+    Completes (outcome_after mid.part mid.interfaces.items end) mid new answer start held →
+    HasTaken answer p q new octets
 whole_of p q octets end old mid new answer start held state at had r ending holds whole part
     interfaces running count place end_is
     slice c =
@@ -130,11 +132,11 @@ whole_of p q octets end old mid new answer start held state at had r ending hold
     omega (arith, length-append had q, holds.taken, whole, same) in
     let part_is : mid.part ≡ state.part = part ∙ holds.part in
     let interfaces_is : mid.interfaces.items ≡ state.interfaces = interfaces ∙ holds.interfaces in
-    let next_is : next mid.part mid.interfaces.items end
-    ≡ next state.part state.interfaces (end_of state.part (had ++ q)) =
+    let next_is : outcome_after mid.part mid.interfaces.items end
+    ≡ outcome_after state.part state.interfaces (end_of state.part (had ++ q)) =
     rw (part_is, interfaces_is, end_is) refl in
     takes_outcome p q octets mid new answer start held state (packet_in state.part (had ++ q))
-    (next state.part state.interfaces (end_of state.part (had ++ q)))
+    (outcome_after state.part state.interfaces (end_of state.part (had ++ q)))
     (completes p q state at had ending all) part_is interfaces_is running (count ∙ r.packets)
     (omega (arith, place, r.octets, length-append p q)) (rw part_is slice)
     (subst (λ (o : Outcome). Completes o mid new answer start held) next_is c)
@@ -167,8 +169,8 @@ pub takes_at_once : (p octets end : List ℕ) (count : ℕ) (old mid new : Captu
     mid.part ≡ old.part → mid.interfaces.items ≡ old.interfaces.items →
     mid.fault ≡ None → mid.packets ≡ old.packets → mid.octets ≡ old.octets + count →
     end ≡ drop (count - back old.part) (take count (drop start octets)) →
-    Completes (next mid.part mid.interfaces.items end) mid new answer start false →
-    Takes answer p (take count (drop start octets)) new octets
+    Completes (outcome_after mid.part mid.interfaces.items end) mid new answer start false →
+    HasTaken answer p (take count (drop start octets)) new octets
 takes_at_once p octets end count old mid new answer start r running fresh whole within part
     interfaces mid_running packets_same
     place end_is c =
@@ -199,8 +201,8 @@ pub takes_rest : (p q octets end : List ℕ) (old mid new : Capture) (answer : P
     Reads old p → old.fault ≡ None → old.taken + length q ≡ size old.part → HoldsPiece old mid q →
     mid.octets ≡ old.octets + length q → 16 ≤ length mid.end_octets →
     end ≡ take (back old.part) mid.end_octets →
-    Completes (next mid.part mid.interfaces.items end) mid new answer 0 true →
-    Takes answer p q new octets
+    Completes (outcome_after mid.part mid.interfaces.items end) mid new answer 0 true →
+    HasTaken answer p q new octets
 takes_rest p q octets end old mid new answer r running whole kept place room end_is c =
     let b = begun p old r running in
     let had = b.had in

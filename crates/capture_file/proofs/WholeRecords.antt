@@ -14,10 +14,10 @@ use Rattle.capture_file.specs.Reading.{PacketRecord, ParserState, Within, Readin
 use Rattle.capture_file.specs.CaptureState.{Reads, octets_in}
 use Rattle.capture_file.specs.CaptureSteps.{IsRecordDue, TakesRecord}
 use Rattle.capture_file.proofs.ReadingSteps.{completes}
-use Rattle.capture_file.proofs.Taking.{Takes, begun, none_of, slice_front}
+use Rattle.capture_file.proofs.Taking.{HasTaken, begun, none_of, slice_front}
 
 -- the header of a record comes next
-abbrev pub at_header : FileHeader → List Interface → ParserState
+abbrev pub at_header : (file : FileHeader) (interfaces : List Interface) → ParserState
 at_header file interfaces = record { part = parts.RecordHeader file; interfaces = interfaces }
 
 -- the reading of a header's octets
@@ -81,7 +81,7 @@ reads_record p q file interfaces at info captured ending long header =
 pub takes_record : (p given : List ℕ) (info : PacketInfo) (start captured : ℕ) (old new : Capture) →
     Reads old p → old.fault ≡ None → IsRecordDue old (drop start given) info captured →
     TakesRecord old new info start captured →
-    Takes progress.Packet p (take (16 + captured) (drop start given)) new given
+    HasTaken progress.Packet p (take (16 + captured) (drop start given)) new given
 takes_record p given info start captured old new r running d t =
     let b = begun p old r running in
     let count = 16 + captured in

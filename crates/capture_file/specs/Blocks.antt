@@ -32,24 +32,24 @@ abbrev pub enhanced_type : ℕ
 enhanced_type = 6
 
 -- the least total length that a block of a type needs, for its fixed fields
-abbrev pub least_length : ℕ → ℕ
+abbrev pub least_length : (kind : ℕ) → ℕ
 least_length kind =
     if kind == interface_type then 20
     else (if kind == enhanced_type then 32 else (if kind == simple_type then 16 else 12))
 
 -- the length of a section header block, in both byte orders; the byte-order magic after it tells
 -- which order is the right one
-abbrev pub length_by_order : ℕ → List ℕ → Outcome
+abbrev pub length_by_order : (offset : ℕ) (octets : List ℕ) → Outcome
 length_by_order at octets =
     Continues (parts.ByteOrderMagic (record {
       big = four_at Big at octets;
       little = four_at Little at octets;
     }))
 
-unfoldable pub section_length : List ℕ → Outcome
+unfoldable pub section_length : (octets : List ℕ) → Outcome
 section_length octets = length_by_order 0 octets
 
-unfoldable pub section : ByteOrder → ℕ → Outcome
+unfoldable pub section : (order : ByteOrder) (length : ℕ) → Outcome
 section order length =
     if (length % 4 == 0) && nat_le 28 length
     then Continues
@@ -57,21 +57,21 @@ section order length =
     else Fails faults.Length
 
 -- the byte-order magic tells the order of the section, and so the length of its own block
-unfoldable pub byte_order_magic : LengthByOrder → List ℕ → Outcome
+unfoldable pub byte_order_magic : (length : LengthByOrder) (octets : List ℕ) → Outcome
 byte_order_magic length octets =
     if four_at Big 0 octets == 0x1a2b3c4d then section Big length.big else
     (if four_at Little 0 octets == 0x1a2b3c4d then section Little length.little
     else Fails faults.Format)
 
 -- the major version, which must be 1, and the minor one, which may be any
-unfoldable pub section_version : Block → List ℕ → Outcome
+unfoldable pub section_version : (block : Block) (octets : List ℕ) → Outcome
 section_version block octets =
     if two_at block.order 0 octets == 1 then Continues (parts.BlockEnd block)
     else Fails faults.Version
 
 -- what comes after the type and the length of a block, in a section that has this number of
 -- interfaces
-unfoldable pub block_of : ByteOrder → ℕ → ℕ → ℕ → Outcome
+unfoldable pub block_of : (order : ByteOrder) (kind length interfaces : ℕ) → Outcome
 block_of order kind length interfaces =
     if kind == interface_type then
     (if nat_lt interfaces most_interfaces
@@ -87,7 +87,7 @@ block_of order kind length interfaces =
     Continues (parts.BlockEnd (record { order = order; length = length; left = length - 12 }))))
 
 -- the type and the length of a block
-unfoldable pub block_header : ByteOrder → ℕ → List ℕ → Outcome
+unfoldable pub block_header : (order : ByteOrder) (interfaces : ℕ) (octets : List ℕ) → Outcome
 block_header order interfaces octets =
     let kind = four_at order 0 octets in
     let length = four_at order 4 octets in
@@ -97,7 +97,7 @@ block_header order interfaces octets =
 
 -- what comes among the options of a block: another option, if there is room for its header after
 -- `skip` octets of the one before, else the block's end
-unfoldable pub options : Block → Interface → ℕ → Outcome
+unfoldable pub options : (block : Block) (interface : Interface) (skip : ℕ) → Outcome
 options block interface skip =
     if nat_le (skip + 4) block.left
     then Continues
@@ -106,7 +106,7 @@ options block interface skip =
 
 -- the link type, two unused octets, and the snapshot length; a unit of time is a microsecond unless
 -- an option says another one
-unfoldable pub interface_header : Block → List ℕ → Outcome
+unfoldable pub interface_header : (block : Block) (octets : List ℕ) → Outcome
 interface_header block octets =
     options block (record {
       link = two_at block.order 0 octets;
@@ -115,12 +115,12 @@ interface_header block octets =
     }) 0
 
 -- a number of octets with their padding to a multiple of 4
-abbrev pub padded : ℕ → ℕ
+abbrev pub padded : (count : ℕ) → ℕ
 padded count = (count + 3) / 4 * 4
 
 -- the code and the length of an option; code 0 ends the options, and so does a value that there is
 -- no room for; code 9 with one octet gives the unit of times (`if_tsresol`)
-unfoldable pub option_header : Block → Interface → List ℕ → Outcome
+unfoldable pub option_header : (block : Block) (interface : Interface) (octets : List ℕ) → Outcome
 option_header block interface octets =
     let code = two_at block.order 0 octets in
     let count = two_at block.order 2 octets in
@@ -132,51 +132,52 @@ option_header block interface octets =
 
 -- how many units make a second: 10 to the number, or, if the number's highest bit is set, 2 to the
 -- number without it
-abbrev pub ticks_of : ℕ → ℕ
-ticks_of unit = if nat_lt unit 128 then 10 ^ unit else 2 ^ (unit - 128)
+abbrev pub units_in_second : (unit : ℕ) → ℕ
+units_in_second unit = if nat_lt unit 128 then 10 ^ unit else 2 ^ (unit - 128)
 
 -- the unit of times, and then three octets of padding; a unit below 10^-19 or 2^-63 seconds is out
 -- of range
-unfoldable pub time_unit : Block → Interface → List ℕ → Outcome
+unfoldable pub time_unit : (block : Block) (interface : Interface) (octets : List ℕ) → Outcome
 time_unit block interface octets =
     let unit = slice_index octets 0 in
     if nat_lt unit 20 || (nat_le 128 unit && nat_lt unit 192)
-    then options block (record interface { ticks = ticks_of unit }) 3
+    then options block (record interface { ticks = units_in_second unit }) 3
     else Fails faults.Format
 
 -- what comes after the number of an enhanced packet's interface
-abbrev pub of_interface : Block → Option Interface → Outcome
+abbrev pub of_interface : (block : Block) (interface : Option Interface) → Outcome
 of_interface block None = Fails faults.Interface
 of_interface block (Some interface) = Continues (parts.EnhancedHeader block interface)
 
-unfoldable pub enhanced_interface : Block → List Interface → List ℕ → Outcome
+unfoldable pub enhanced_interface : (block : Block) (interfaces : List Interface)
+    (octets : List ℕ) → Outcome
 enhanced_interface block interfaces octets =
     of_interface block (slice_get interfaces (four_at block.order 0 octets))
 
 -- a packet, if it doesn't have too many octets and its block has room for them
-unfoldable pub packet_of : Block → Body → Outcome
+unfoldable pub packet_of : (block : Block) (body : Body) → Outcome
 packet_of block body =
     if nat_lt most_captured body.captured || nat_lt block.left body.captured
     then Fails faults.Length else
     Continues (parts.Packet (record block { left = block.left - body.captured }) body)
 
 -- a number of units in nanoseconds, rounded down
-abbrev pub nanoseconds_of : ℕ → ℕ → ℕ
+abbrev pub nanoseconds_of : (units ticks : ℕ) → ℕ
 nanoseconds_of units ticks = units * 1000000000 / ticks
 
 -- a number of units in nanoseconds since 1970; from the year 10000 on there is none (nor if no unit
 -- makes a second, which no interface can say)
-unfoldable pub time_of : ℕ → ℕ → Option ℕ
+unfoldable pub time_of : (units ticks : ℕ) → Option ℕ
 time_of units ticks =
     if (ticks == 0) || nat_le (253402300800 * 1000000000) (nanoseconds_of units ticks)
     then None else Some (nanoseconds_of units ticks)
 
 -- the upper half of a time and then the lower one
-abbrev pub units_at : ByteOrder → List ℕ → ℕ
+abbrev pub units_at : (order : ByteOrder) (octets : List ℕ) → ℕ
 units_at order octets = four_at order 0 octets * 2 ^ 32 + four_at order 4 octets
 
 -- the time of an enhanced packet, and the length that was captured
-unfoldable pub enhanced_header : Block → Interface → List ℕ → Outcome
+unfoldable pub enhanced_header : (block : Block) (interface : Interface) (octets : List ℕ) → Outcome
 enhanced_header block interface octets =
     packet_of block (record {
       info = record {
@@ -188,25 +189,27 @@ enhanced_header block interface octets =
     })
 
 -- how many octets of a packet an interface captures, by the packet's original length
-abbrev pub cut : ℕ → ℕ → ℕ
-cut original snapshot = if snapshot == 0 then original else min original snapshot
+abbrev pub captured_size : (original snapshot : ℕ) → ℕ
+captured_size original snapshot = if snapshot == 0 then original else min original snapshot
 
 -- a simple packet is of interface 0, and has no time
-abbrev pub of_first_interface : Block → ℕ → Option Interface → Outcome
+abbrev pub of_first_interface : (block : Block) (original : ℕ) (interface : Option Interface) →
+    Outcome
 of_first_interface block original None = Fails faults.Interface
 of_first_interface block original (Some interface) =
     packet_of block (record {
       info = record { link = interface.link; time = None };
       packet_offset = 0;
-      captured = cut original interface.snapshot;
+      captured = captured_size original interface.snapshot;
     })
 
 -- the original length of a simple packet
-unfoldable pub simple_header : Block → List Interface → List ℕ → Outcome
+unfoldable pub simple_header : (block : Block) (interfaces : List Interface) (octets : List ℕ) →
+    Outcome
 simple_header block interfaces octets =
     of_first_interface block (four_at block.order 0 octets) (slice_get interfaces 0)
 
 -- the second length of a block, which must be the first one again
-unfoldable pub block_end : Block → List ℕ → Outcome → Outcome
+unfoldable pub block_end : (block : Block) (octets : List ℕ) (outcome : Outcome) → Outcome
 block_end block octets outcome =
     if four_at block.order 0 octets == block.length then outcome else Fails faults.Format

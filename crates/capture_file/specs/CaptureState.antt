@@ -11,23 +11,24 @@ use Rattle.capture_file.specs.Reading.{ParserState, Ending, Within, Faulted, rea
 
 -- a part has begun, and these octets of it have come; the capture holds those of them that are at
 -- the part's front or at its end
-pub record HoldsPart (c : Capture) (state : ParserState) (had : List ℕ) : Type 0 where
-  pub running : c.fault ≡ None
-  pub part : c.part ≡ state.part
-  pub interfaces : c.interfaces.items ≡ state.interfaces
-  pub taken : c.taken ≡ length had
-  pub packet_octets : IsHeld 0 (front state.part) had c.packet_octets.items
-  pub end_octets : IsHeld (front state.part + passed state.part) (back state.part) had c.end_octets
+pub record HoldsPart (capture : Capture) (state : ParserState) (had : List ℕ) : Type 0 where
+  pub running : capture.fault ≡ None
+  pub part : capture.part ≡ state.part
+  pub interfaces : capture.interfaces.items ≡ state.interfaces
+  pub taken : capture.taken ≡ length had
+  pub packet_octets : IsHeld 0 (front state.part) had capture.packet_octets.items
+  pub end_octets : IsHeld (front state.part + passed state.part)
+      (back state.part) had capture.end_octets
 
-abbrev pub Stands : Capture → Ending → Type 0
-Stands c (Within state at had) = HoldsPart c state had
-Stands c (Faulted fault) = c.fault ≡ Some fault
+abbrev pub HoldsEnding : (capture : Capture) (ending : Ending) → Type 0
+HoldsEnding c (Within state at had) = HoldsPart c state had
+HoldsEnding c (Faulted fault) = c.fault ≡ Some fault
 
 -- The capture has taken the octets p.
-pub record Reads (c : Capture) (p : List ℕ) : Type 0 where
-  pub octets : c.octets ≡ length p
-  pub packets : c.packets ≡ length (packets p)
-  pub stands : Stands c (reading p).ending
+pub record Reads (capture : Capture) (octets_taken : List ℕ) : Type 0 where
+  pub octets : capture.octets ≡ length octets_taken
+  pub packets : capture.packets ≡ length (packets octets_taken)
+  pub stands : HoldsEnding capture (reading octets_taken).ending
 
 -- there is room for the same number of interfaces, and for a packet of the same length
 pub record HasSameRoom (old new : Capture) : Type 0 where
@@ -35,47 +36,49 @@ pub record HasSameRoom (old new : Capture) : Type 0 where
   pub packet_octets : vec_capacity new.packet_octets ≡ vec_capacity old.packet_octets
 
 -- how many octets a capture has taken
-abbrev pub octets_of : Capture → ℕ
+abbrev pub octets_of : (capture : Capture) → ℕ
 octets_of c = c.octets
 
 -- the packet stands in what the capture holds, or in the octets that were given last
-abbrev pub InRange : Bool → ℕ → List ℕ → List ℕ → Type 0
-InRange true end held octets = end ≤ length held
-InRange false end held octets = end ≤ length octets
+abbrev pub PacketIsWithin : (is_held : Bool) (end : ℕ) (held octets : List ℕ) → Type 0
+PacketIsWithin true end held octets = end ≤ length held
+PacketIsWithin false end held octets = end ≤ length octets
 
-abbrev pub IsIn : Capture → List ℕ → Type 0
-IsIn c octets = InRange c.packet_range.held c.packet_range.end c.packet_octets.items octets
+abbrev pub PacketIsIn : (capture : Capture) (octets : List ℕ) → Type 0
+PacketIsIn c octets = PacketIsWithin c.packet_range.held c.packet_range.end c.packet_octets.items
+    octets
 
 -- what is known of the packet, and its octets
-abbrev pub info_in : Capture → PacketInfo
+abbrev pub info_in : (capture : Capture) → PacketInfo
 info_in c = c.packet_range.info
 
-abbrev pub octets_around : Capture → List ℕ → List ℕ
+abbrev pub octets_around : (capture : Capture) (octets : List ℕ) → List ℕ
 octets_around c octets = if c.packet_range.held then c.packet_octets.items else octets
 
-abbrev pub octets_in : Capture → List ℕ → List ℕ
+abbrev pub octets_in : (capture : Capture) (octets : List ℕ) → List ℕ
 octets_in c octets =
     slice_range (octets_around c octets) c.packet_range.start c.packet_range.end
 
--- The answer after octets were taken that come after p. They are the first ones of those given, and
--- only the last of them completes or shows anything. The answer is that more octets can be taken,
--- that a packet is complete, or that a fault shows.
-abbrev pub Answers : Progress → List ℕ → List ℕ → Capture → List ℕ → Type 0
-Answers progress.More p taken c octets =
-    (packets (p ++ taken) ≡ packets p) × (fault (p ++ taken) ≡ None)
-Answers progress.Packet p taken c octets =
-    (packets (p ++ taken)
-    ≡ packets p ++ record {
-      place = length (p ++ taken);
+-- The answer after octets were taken that come after `before`. They are the first ones of those
+-- given, and only the last of them completes or shows anything. The answer is that more octets can
+-- be taken, that a packet is complete, or that a fault shows.
+abbrev pub Answers : (progress : Progress) (before taken : List ℕ) (capture : Capture)
+    (octets : List ℕ) → Type 0
+Answers progress.More before taken c octets =
+    (packets (before ++ taken) ≡ packets before) × (fault (before ++ taken) ≡ None)
+Answers progress.Packet before taken c octets =
+    (packets (before ++ taken)
+    ≡ packets before ++ record {
+      place = length (before ++ taken);
       info = info_in c;
       octets = octets_in c octets;
     } ∷ [])
-    × (fault (p ++ taken) ≡ None)
-Answers (progress.Fault f) p taken c octets =
-    (packets (p ++ taken) ≡ packets p) × (fault (p ++ taken) ≡ Some f)
-    × (f.place ≡ length (p ++ taken))
+    × (fault (before ++ taken) ≡ None)
+Answers (progress.Fault f) before taken c octets =
+    (packets (before ++ taken) ≡ packets before) × (fault (before ++ taken) ≡ Some f)
+    × (f.place ≡ length (before ++ taken))
 
 -- the capture goes on if the octets complete nothing
-abbrev pub IsRunning : Progress → Capture → Type 0
-IsRunning progress.More c = c.fault ≡ None
-IsRunning _ c = Unit {0}
+abbrev pub RunsIfMore : (progress : Progress) (capture : Capture) → Type 0
+RunsIfMore progress.More c = c.fault ≡ None
+RunsIfMore _ c = Unit {0}

@@ -32,7 +32,7 @@ pub record HoldsPiece (old new : Capture) (piece : List ℕ) : Type 0 where
       IsHeld (front old.part + passed old.part) (back old.part) (had ++ piece) new.end_octets
 
 -- octets were counted
-pub record Advances (old new : Capture) (count : ℕ) : Type 0 where
+pub record CountsOctets (old new : Capture) (count : ℕ) : Type 0 where
   pub part : new.part ≡ old.part
   pub interfaces : new.interfaces.items ≡ old.interfaces.items
   pub taken : new.taken ≡ old.taken
@@ -61,7 +61,8 @@ pub record PartBegins (old new : Capture) (state : Part) : Type 0 where
   pub packet_octets : new.packet_octets.items ≡ old.packet_octets.items
 
 -- a part is complete; it began at this index of the octets that the caller gave, or is held
-abbrev pub Completes : Outcome → Capture → Capture → Progress → ℕ → Bool → Type 0
+abbrev pub Completes : (outcome : Outcome) (old new : Capture) (answer : Progress) (start : ℕ)
+    (held : Bool) → Type 0
 Completes (Continues part) old new answer start held =
     (answer ≡ progress.More) × PartBegins old new part × (new.packets ≡ old.packets)
 Completes (EndsPacket info part) old new answer start held =

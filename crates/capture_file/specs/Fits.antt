@@ -11,19 +11,19 @@ abbrev pub room : ℕ
 room = 262148
 
 -- how many interfaces are added at the end of the block that this part is of
-abbrev pub adds : Part → ℕ
-adds (parts.InterfaceHeader block) = 1
-adds (parts.OptionHeader block interface skip) = 1
-adds (parts.TimeUnit block interface) = 1
-adds (parts.InterfaceEnd block interface) = 1
-adds _ = 0
+abbrev pub interfaces_added : Part → ℕ
+interfaces_added (parts.InterfaceHeader block) = 1
+interfaces_added (parts.OptionHeader block interface skip) = 1
+interfaces_added (parts.TimeUnit block interface) = 1
+interfaces_added (parts.InterfaceEnd block interface) = 1
+interfaces_added _ = 0
 
 -- there is room for the packet at the part's front, and the part adds at most this number of
 -- interfaces
-abbrev pub HasRoom : ℕ → Part → Type 0
-HasRoom more part = (front part ≤ room) × (adds part ≤ more)
+abbrev pub HasRoom : (more : ℕ) (part : Part) → Type 0
+HasRoom more part = (front part ≤ room) × (interfaces_added part ≤ more)
 
-abbrev pub Fits : ℕ → Outcome → Type 0
+abbrev pub Fits : (more : ℕ) (outcome : Outcome) → Type 0
 Fits more (Continues part) = HasRoom more part
 Fits more (EndsPacket info part) = HasRoom more part
 Fits more (Fails kind) = Unit {0}

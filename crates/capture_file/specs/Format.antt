@@ -9,34 +9,36 @@ use Rattle.capture_file.specs.declared.part.Outcome.TheVariants.{Continues, Ends
 use Rattle.capture_file.specs.Records.{beginning, file_version, file_rest, record_header, record_end}
 use Rattle.capture_file.specs.Blocks.{section_length, byte_order_magic, section_version, block_header, interface_header, option_header, time_unit, enhanced_interface, enhanced_header, simple_header, block_end}
 
-abbrev pub next : Part → List Interface → List ℕ → Outcome
-next parts.Beginning interfaces octets = beginning octets
-next (parts.FileVersion magic) interfaces octets = file_version magic octets
-next (parts.FileRest magic) interfaces octets = file_rest magic octets
-next (parts.RecordHeader file) interfaces octets = record_header file octets
-next (parts.Record file info captured) interfaces octets = record_end file info
-next parts.SectionLength interfaces octets = section_length octets
-next (parts.ByteOrderMagic length) interfaces octets = byte_order_magic length octets
-next (parts.SectionVersion block) interfaces octets = section_version block octets
-next (parts.BlockHeader order) interfaces octets = block_header order (length interfaces) octets
-next (parts.InterfaceHeader block) interfaces octets = interface_header block octets
-next (parts.OptionHeader block interface skip) interfaces octets =
+abbrev pub outcome_after : (part : Part) (interfaces : List Interface) (octets : List ℕ) → Outcome
+outcome_after parts.Beginning interfaces octets = beginning octets
+outcome_after (parts.FileVersion magic) interfaces octets = file_version magic octets
+outcome_after (parts.FileRest magic) interfaces octets = file_rest magic octets
+outcome_after (parts.RecordHeader file) interfaces octets = record_header file octets
+outcome_after (parts.Record file info captured) interfaces octets = record_end file info
+outcome_after parts.SectionLength interfaces octets = section_length octets
+outcome_after (parts.ByteOrderMagic length) interfaces octets = byte_order_magic length octets
+outcome_after (parts.SectionVersion block) interfaces octets = section_version block octets
+outcome_after (parts.BlockHeader order) interfaces octets =
+    block_header order (length interfaces) octets
+outcome_after (parts.InterfaceHeader block) interfaces octets = interface_header block octets
+outcome_after (parts.OptionHeader block interface skip) interfaces octets =
     option_header block interface octets
-next (parts.TimeUnit block interface) interfaces octets = time_unit block interface octets
-next (parts.InterfaceEnd block interface) interfaces octets =
+outcome_after (parts.TimeUnit block interface) interfaces octets = time_unit block interface octets
+outcome_after (parts.InterfaceEnd block interface) interfaces octets =
     block_end block octets (Continues (parts.BlockHeader block.order))
-next (parts.EnhancedInterface block) interfaces octets = enhanced_interface block interfaces octets
-next (parts.EnhancedHeader block interface) interfaces octets =
+outcome_after (parts.EnhancedInterface block) interfaces octets =
+    enhanced_interface block interfaces octets
+outcome_after (parts.EnhancedHeader block interface) interfaces octets =
     enhanced_header block interface octets
-next (parts.SimpleHeader block) interfaces octets = simple_header block interfaces octets
-next (parts.Packet block body) interfaces octets =
+outcome_after (parts.SimpleHeader block) interfaces octets = simple_header block interfaces octets
+outcome_after (parts.Packet block body) interfaces octets =
     block_end block octets (EndsPacket body.info (parts.BlockHeader block.order))
-next (parts.BlockEnd block) interfaces octets =
+outcome_after (parts.BlockEnd block) interfaces octets =
     block_end block octets (Continues (parts.BlockHeader block.order))
 
 -- the interfaces of the section after a part: a section begins with none, and each interface
 -- description adds one
-abbrev pub interfaces_behind : Part → List Interface → List Interface
+abbrev pub interfaces_behind : (part : Part) (interfaces : List Interface) → List Interface
 interfaces_behind (parts.ByteOrderMagic length) interfaces = []
 interfaces_behind (parts.InterfaceEnd block interface) interfaces = interfaces ++ interface ∷ []
 interfaces_behind _ interfaces = interfaces

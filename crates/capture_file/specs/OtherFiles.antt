@@ -7,7 +7,7 @@ use Rattle.capture_file.specs.Numbers.{two_at, four_at}
 
 -- gzip (RFC 1952), Zstandard (RFC 8878), xz (the .xz file format), snoop (RFC 1761), and pcap files
 -- whose records have more fields, in either byte order
-unfoldable pub other_file : List ℕ → OtherFile
+unfoldable pub other_file : (octets : List ℕ) → OtherFile
 other_file octets =
     if two_at Big 0 octets == 0x1f8b then files.Gzip else
     (if four_at Big 0 octets == 0x28b52ffd then files.Zstandard else

@@ -13,26 +13,26 @@ pub data Fractions : Type 0 where
   Nanoseconds : Fractions
 
 -- how many nanoseconds the unit has
-abbrev pub nanoseconds_in : Fractions → ℕ
+abbrev pub nanoseconds_in : (fractions : Fractions) → ℕ
 nanoseconds_in Microseconds = 1000
 nanoseconds_in Nanoseconds = 1
 
 -- the magic, which tells the unit, and the byte order of the file's numbers
-abbrev pub magic_octets : ByteOrder → Fractions → List ℕ
+abbrev pub magic_octets : (order : ByteOrder) (fractions : Fractions) → List ℕ
 magic_octets Big Microseconds = 0xa1 ∷ 0xb2 ∷ 0xc3 ∷ 0xd4 ∷ []
 magic_octets Big Nanoseconds = 0xa1 ∷ 0xb2 ∷ 0x3c ∷ 0x4d ∷ []
 magic_octets Little Microseconds = 0xd4 ∷ 0xc3 ∷ 0xb2 ∷ 0xa1 ∷ []
 magic_octets Little Nanoseconds = 0x4d ∷ 0x3c ∷ 0xb2 ∷ 0xa1 ∷ []
 
 -- the major version, 2
-abbrev pub major_octets : ByteOrder → List ℕ
+abbrev pub major_octets : (order : ByteOrder) → List ℕ
 major_octets Big = 0 ∷ 2 ∷ []
 major_octets Little = 2 ∷ 0 ∷ []
 
 -- a number of the file
-unfoldable pub number_octets : ByteOrder → ℕ → List ℕ
-number_octets Big n = to_be_bytes w32 n
-number_octets Little n = to_le_bytes w32 n
+unfoldable pub number_octets : (order : ByteOrder) (number : ℕ) → List ℕ
+number_octets Big number = to_be_bytes w32 number
+number_octets Little number = to_le_bytes w32 number
 
 -- a file: its byte order and its unit, the octets that are not looked at (those of the minor
 -- version, and after them the unused ones and those of the snapshot length), and the number of its
@@ -44,7 +44,7 @@ pub record PcapFile : Type 0 where
   pub unused : List ℕ
   pub link : ℕ
 
-abbrev pub header_octets : PcapFile → List ℕ
+abbrev pub header_octets : (file : PcapFile) → List ℕ
 header_octets f = magic_octets f.order f.fractions ++ (major_octets f.order ++ f.minor)
     ++ (f.unused ++ number_octets f.order f.link)
 
@@ -55,31 +55,31 @@ pub record PcapRecord : Type 0 where
   pub original : ℕ
   pub octets : List ℕ
 
-unfoldable pub record_octets : ByteOrder → PcapRecord → List ℕ
+unfoldable pub record_octets : (order : ByteOrder) (pcap_record : PcapRecord) → List ℕ
 record_octets order r =
     number_octets order r.seconds ++ number_octets order r.fraction
     ++ number_octets order (length r.octets) ++ number_octets order r.original ++ r.octets
 
-unfoldable pub records_octets : ByteOrder → List PcapRecord → List ℕ
+unfoldable pub records_octets : (order : ByteOrder) (records : List PcapRecord) → List ℕ
 records_octets order [] = []
 records_octets order (r ∷ rs) = record_octets order r ++ records_octets order rs
 
-abbrev pub file_octets : PcapFile → List PcapRecord → List ℕ
-file_octets f rs = header_octets f ++ records_octets f.order rs
+abbrev pub file_octets : (file : PcapFile) (records : List PcapRecord) → List ℕ
+file_octets f records = header_octets f ++ records_octets f.order records
 
 -- the parts of the file have the right lengths
-pub record IsPcapFile (f : PcapFile) : Type 0 where
-  pub minor : length f.minor ≡ 2
-  pub unused : length f.unused ≡ 12
-  pub link : f.link < 2 ^ 32
+pub record IsPcapFile (file : PcapFile) : Type 0 where
+  pub minor : length file.minor ≡ 2
+  pub unused : length file.unused ≡ 12
+  pub link : file.link < 2 ^ 32
 
-pub record IsPcapRecord (r : PcapRecord) : Type 0 where
-  pub seconds : r.seconds < 2 ^ 32
-  pub fraction : r.fraction < 2 ^ 32
-  pub few : length r.octets ≤ 262144
+pub record IsPcapRecord (pcap_record : PcapRecord) : Type 0 where
+  pub seconds : pcap_record.seconds < 2 ^ 32
+  pub fraction : pcap_record.fraction < 2 ^ 32
+  pub few : length pcap_record.octets ≤ 262144
 
 -- the packet of a record that ends at this place
-abbrev pub packet_of : PcapFile → ℕ → PcapRecord → PacketRecord
+abbrev pub packet_of : (file : PcapFile) (place : ℕ) (pcap_record : PcapRecord) → PacketRecord
 packet_of f place r = record {
   place = place;
   info = record {
@@ -90,7 +90,8 @@ packet_of f place r = record {
 }
 
 -- the packets of records that begin at this place
-unfoldable pub packets_of : PcapFile → ℕ → List PcapRecord → List PacketRecord
+unfoldable pub packets_of : (file : PcapFile) (place : ℕ) (records : List PcapRecord) →
+    List PacketRecord
 packets_of f place [] = []
 packets_of f place (r ∷ rs) =
     packet_of f (place + (16 + length r.octets)) r

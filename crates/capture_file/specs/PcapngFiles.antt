@@ -6,17 +6,17 @@ use Rattle.std.specs.Int.{w16, to_be_bytes, to_le_bytes}
 use Rattle.capture_file.specs.declared.part.ByteOrder.{ByteOrder}
 use Rattle.capture_file.specs.declared.part.ByteOrder.TheVariants.{Big, Little}
 use Rattle.capture_file.specs.declared.part.Interface.{Interface}
-use Rattle.capture_file.specs.Blocks.{section_type, interface_type, simple_type, enhanced_type, most_interfaces, padded, ticks_of, time_of, cut}
+use Rattle.capture_file.specs.Blocks.{section_type, interface_type, simple_type, enhanced_type, most_interfaces, padded, units_in_second, time_of, captured_size}
 use Rattle.capture_file.specs.PcapFiles.{number_octets}
 use Rattle.capture_file.specs.Reading.{PacketRecord, packets, final_fault}
 
 -- a number of two octets
-unfoldable pub half_octets : ByteOrder → ℕ → List ℕ
-half_octets Big n = to_be_bytes w16 n
-half_octets Little n = to_le_bytes w16 n
+unfoldable pub half_octets : (order : ByteOrder) (number : ℕ) → List ℕ
+half_octets Big number = to_be_bytes w16 number
+half_octets Little number = to_le_bytes w16 number
 
 -- the byte-order magic
-abbrev pub order_octets : ByteOrder → List ℕ
+abbrev pub order_octets : (order : ByteOrder) → List ℕ
 order_octets Big = 0x1a ∷ 0x2b ∷ 0x3c ∷ 0x4d ∷ []
 order_octets Little = 0x4d ∷ 0x3c ∷ 0x2b ∷ 0x1a ∷ []
 
@@ -26,19 +26,19 @@ pub record BlockOption : Type 0 where
   pub value : List ℕ
 
 -- the value of an option, and zeros up to a multiple of 4 octets
-abbrev pub value_octets : BlockOption → List ℕ
+abbrev pub value_octets : (option : BlockOption) → List ℕ
 value_octets x = x.value ++ replicate (padded (length x.value) - length x.value) 0
 
-abbrev pub option_octets : ByteOrder → BlockOption → List ℕ
+abbrev pub option_octets : (order : ByteOrder) (option : BlockOption) → List ℕ
 option_octets o x =
     (half_octets o x.code ++ half_octets o (length x.value)) ++ value_octets x
 
 -- options, and the option that ends them
-unfoldable pub ended_options : ByteOrder → List BlockOption → List ℕ
+unfoldable pub ended_options : (order : ByteOrder) (options : List BlockOption) → List ℕ
 ended_options o [] = half_octets o 0 ++ half_octets o 0
 ended_options o (x ∷ xs) = option_octets o x ++ ended_options o xs
 
-abbrev pub options_octets : ByteOrder → List BlockOption → List ℕ
+abbrev pub options_octets : (order : ByteOrder) (options : List BlockOption) → List ℕ
 options_octets o [] = []
 options_octets o (x ∷ xs) = ended_options o (x ∷ xs)
 
@@ -54,14 +54,14 @@ pub data PcapngBlock : Type 0 where
   OtherBlock : ℕ → List ℕ → PcapngBlock
 
 -- the type of a block
-abbrev pub type_of : PcapngBlock → ℕ
+abbrev pub type_of : (block : PcapngBlock) → ℕ
 type_of (InterfaceBlock link snapshot options) = interface_type
 type_of (EnhancedBlock interface high low original octets behind) = enhanced_type
 type_of (SimpleBlock original octets behind) = simple_type
 type_of (OtherBlock kind body) = kind
 
 -- what stands between the two lengths of a block
-abbrev pub body_octets : ByteOrder → PcapngBlock → List ℕ
+abbrev pub body_octets : (order : ByteOrder) (block : PcapngBlock) → List ℕ
 body_octets o (InterfaceBlock link snapshot options) =
     ((half_octets o link ++ 0 ∷ 0 ∷ []) ++ number_octets o snapshot) ++ options_octets o options
 body_octets o (EnhancedBlock interface high low original octets behind) =
@@ -72,15 +72,15 @@ body_octets o (SimpleBlock original octets behind) =
     number_octets o original ++ (octets ++ behind)
 body_octets o (OtherBlock kind body) = body
 
-abbrev pub length_of : ByteOrder → PcapngBlock → ℕ
+abbrev pub length_of : (order : ByteOrder) (block : PcapngBlock) → ℕ
 length_of o b = 12 + length (body_octets o b)
 
-abbrev pub block_octets : ByteOrder → PcapngBlock → List ℕ
+abbrev pub block_octets : (order : ByteOrder) (block : PcapngBlock) → List ℕ
 block_octets o b =
     (number_octets o (type_of b) ++ number_octets o (length_of o b))
     ++ (body_octets o b ++ number_octets o (length_of o b))
 
-unfoldable pub blocks_octets : ByteOrder → List PcapngBlock → List ℕ
+unfoldable pub blocks_octets : (order : ByteOrder) (blocks : List PcapngBlock) → List ℕ
 blocks_octets o [] = []
 blocks_octets o (b ∷ bs) = block_octets o b ++ blocks_octets o bs
 
@@ -91,57 +91,58 @@ pub record PcapngFile : Type 0 where
   pub minor : List ℕ
   pub rest : List ℕ
 
-abbrev pub section_size : PcapngFile → ℕ
+abbrev pub section_size : (file : PcapngFile) → ℕ
 section_size f = 20 + length f.rest
 
-abbrev pub section_octets : PcapngFile → List ℕ
+abbrev pub section_octets : (file : PcapngFile) → List ℕ
 section_octets f =
     (((0x0a ∷ 0x0d ∷ 0x0d ∷ 0x0a ∷ []) ++ number_octets f.order (section_size f))
     ++ order_octets f.order) ++ (half_octets f.order 1 ++ f.minor)
     ++ (f.rest ++ number_octets f.order (section_size f))
 
-abbrev pub pcapng_octets : PcapngFile → List PcapngBlock → List ℕ
-pcapng_octets f bs = section_octets f ++ blocks_octets f.order bs
+abbrev pub pcapng_octets : (file : PcapngFile) (blocks : List PcapngBlock) → List ℕ
+pcapng_octets f blocks = section_octets f ++ blocks_octets f.order blocks
 
 -- the parts of the file have the right lengths
-pub record IsPcapngFile (f : PcapngFile) : Type 0 where
-  pub minor : length f.minor ≡ 2
-  pub some : 8 ≤ length f.rest
-  pub whole : section_size f % 4 ≡ 0
-  pub few : section_size f < 2 ^ 32
+pub record IsPcapngFile (file : PcapngFile) : Type 0 where
+  pub minor : length file.minor ≡ 2
+  pub some : 8 ≤ length file.rest
+  pub whole : section_size file % 4 ≡ 0
+  pub few : section_size file < 2 ^ 32
 
 -- the length is one that a block may have
 pub record HasLength (length : ℕ) : Type 0 where
   pub whole : length % 4 ≡ 0
   pub few : length < 2 ^ 32
 
-abbrev pub is_unit_in_range : ℕ → Bool
+abbrev pub is_unit_in_range : (unit : ℕ) → Bool
 is_unit_in_range unit = nat_lt unit 20 || (nat_le 128 unit && nat_lt unit 192)
 
 -- The option's code isn't the one that ends the options, the length of its value fits its field,
 -- and if it is the unit of times, that is in range.
-abbrev pub is_unit : BlockOption → Bool
+abbrev pub is_unit : (option : BlockOption) → Bool
 is_unit x = (x.code == 9) && (length x.value == 1)
 
-pub record IsOption (x : BlockOption) : Type 0 where
-  pub some : x.code ≢ 0
-  pub code : x.code < 2 ^ 16
-  pub few : length x.value < 2 ^ 16
-  pub unit : is_unit x ≡ true → is_unit_in_range (slice_index x.value 0) ≡ true
+pub record IsOption (option : BlockOption) : Type 0 where
+  pub some : option.code ≢ 0
+  pub code : option.code < 2 ^ 16
+  pub few : length option.value < 2 ^ 16
+  pub unit : is_unit option ≡ true → is_unit_in_range (slice_index option.value 0) ≡ true
 
 -- how many units make a second, by the options: those of microseconds, unless an option says
 -- another number
-unfoldable pub ticks_by : ℕ → List BlockOption → ℕ
+unfoldable pub ticks_by : (ticks : ℕ) (options : List BlockOption) → ℕ
 ticks_by ticks [] = ticks
 ticks_by ticks (x ∷ xs) =
-    ticks_by (if is_unit x then ticks_of (slice_index x.value 0) else ticks) xs
+    ticks_by (if is_unit x then units_in_second (slice_index x.value 0) else ticks) xs
 
-abbrev pub interface_of : ℕ → ℕ → List BlockOption → Interface
+abbrev pub interface_of : (link snapshot : ℕ) (options : List BlockOption) → Interface
 interface_of link snapshot options =
     record { link = link; snapshot = snapshot; ticks = ticks_by 1000000 options }
 
 -- the block may stand in a section that has these interfaces
-abbrev pub IsBlock : ByteOrder → List Interface → PcapngBlock → Type 0
+abbrev pub IsBlock : (order : ByteOrder) (interfaces : List Interface) (block : PcapngBlock) →
+    Type 0
 IsBlock o interfaces (InterfaceBlock link snapshot options) =
     (length interfaces < most_interfaces) × (link < 2 ^ 16) × (snapshot < 2 ^ 32)
     × AllByRecursion IsOption options
@@ -152,7 +153,7 @@ IsBlock o interfaces (EnhancedBlock interface high low original octets behind) =
     × HasLength (length_of o (EnhancedBlock interface high low original octets behind))
 IsBlock o interfaces (SimpleBlock original octets behind) =
     (0 < length interfaces)
-    × IfSome (slice_get interfaces 0) (λ i. length octets ≡ cut original i.snapshot)
+    × IfSome (slice_get interfaces 0) (λ i. length octets ≡ captured_size original i.snapshot)
     × (original < 2 ^ 32) × (length octets ≤ 262144)
     × HasLength (length_of o (SimpleBlock original octets behind))
 IsBlock o interfaces (OtherBlock kind body) =
@@ -160,7 +161,7 @@ IsBlock o interfaces (OtherBlock kind body) =
     × (kind ≢ section_type) × (kind < 2 ^ 32) × HasLength (length_of o (OtherBlock kind body))
 
 -- the interfaces of the section after a block
-abbrev pub with_block : List Interface → PcapngBlock → List Interface
+abbrev pub with_block : (interfaces : List Interface) (block : PcapngBlock) → List Interface
 with_block interfaces (InterfaceBlock link snapshot options) =
     interfaces ++ interface_of link snapshot options ∷ []
 with_block interfaces (EnhancedBlock interface high low original octets behind) = interfaces
@@ -168,13 +169,15 @@ with_block interfaces (SimpleBlock original octets behind) = interfaces
 with_block interfaces (OtherBlock kind body) = interfaces
 
 -- each block may stand after those before it
-unfoldable pub AreBlocks : ByteOrder → List Interface → List PcapngBlock → Type 0
+unfoldable pub AreBlocks : (order : ByteOrder) (interfaces : List Interface)
+    (blocks : List PcapngBlock) → Type 0
 AreBlocks o interfaces [] = Unit {0}
 AreBlocks o interfaces (b ∷ bs) =
     IsBlock o interfaces b × AreBlocks o (with_block interfaces b) bs
 
 -- the packet of an enhanced packet block that ends at this place, by its interface, with its time
-abbrev pub enhanced_packet : ℕ → ℕ → List ℕ → Option Interface → List PacketRecord
+abbrev pub enhanced_packet : (place units : ℕ) (octets : List ℕ) (interface : Option Interface) →
+    List PacketRecord
 enhanced_packet place units octets None = []
 enhanced_packet place units octets (Some interface) = record {
   place = place;
@@ -183,7 +186,8 @@ enhanced_packet place units octets (Some interface) = record {
 } ∷ []
 
 -- the packet of a simple packet block that ends at this place, by its interface, without a time
-abbrev pub simple_packet : ℕ → List ℕ → Option Interface → List PacketRecord
+abbrev pub simple_packet : (place : ℕ) (octets : List ℕ) (interface : Option Interface) →
+    List PacketRecord
 simple_packet place octets None = []
 simple_packet place octets (Some interface) = record {
   place = place;
@@ -192,7 +196,8 @@ simple_packet place octets (Some interface) = record {
 } ∷ []
 
 -- the packet of a block that ends at this place, if it has one, by the interfaces before it
-abbrev pub packet_of_block : List Interface → ℕ → PcapngBlock → List PacketRecord
+abbrev pub packet_of_block : (interfaces : List Interface) (place : ℕ)
+    (block : PcapngBlock) → List PacketRecord
 packet_of_block interfaces place (InterfaceBlock link snapshot options) = []
 packet_of_block interfaces place (EnhancedBlock interface high low original octets behind) =
     enhanced_packet place (high * 2 ^ 32 + low) octets (slice_get interfaces interface)
@@ -201,8 +206,8 @@ packet_of_block interfaces place (SimpleBlock original octets behind) =
 packet_of_block interfaces place (OtherBlock kind body) = []
 
 -- the packets of blocks that begin at this place, in a section that has these interfaces
-unfoldable pub packets_of_blocks : ByteOrder → List Interface → ℕ → List PcapngBlock →
-    List PacketRecord
+unfoldable pub packets_of_blocks : (order : ByteOrder) (interfaces : List Interface) (place : ℕ)
+    (blocks : List PcapngBlock) → List PacketRecord
 packets_of_blocks o interfaces place [] = []
 packets_of_blocks o interfaces place (b ∷ bs) =
     packet_of_block interfaces (place + length_of o b) b

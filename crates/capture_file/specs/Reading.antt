@@ -10,7 +10,7 @@ use Rattle.capture_file.specs.declared.part.Part.TheVariants as parts
 use Rattle.capture_file.specs.declared.part.Outcome.{Outcome}
 use Rattle.capture_file.specs.declared.part.Outcome.TheVariants.{Continues, EndsPacket, Fails}
 use Rattle.capture_file.specs.Parts.{front, passed, back, packet_offset, size, may_end_before}
-use Rattle.capture_file.specs.Format.{next, interfaces_behind}
+use Rattle.capture_file.specs.Format.{outcome_after, interfaces_behind}
 
 -- a packet: its link type, its time and its octets; its place is the number of octets that the
 -- capture has up to the end of the packet's record or block
@@ -36,16 +36,17 @@ pub record Reading : Type 0 where
   pub ending : Ending
 
 -- the octets at a part's end
-abbrev pub end_of : Part → List ℕ → List ℕ
+abbrev pub end_of : (part : Part) (octets : List ℕ) → List ℕ
 end_of part octets = take (back part) (drop (front part + passed part) octets)
 
 -- the octets of the packet at a part's front
-abbrev pub packet_in : Part → List ℕ → List ℕ
+abbrev pub packet_in : (part : Part) (octets : List ℕ) → List ℕ
 packet_in part octets = drop (packet_offset part) (take (front part) octets)
 
 -- how a reading goes on after a part that ends at this place; `packet` is the packet's octets, if
 -- the part ends one
-abbrev pub behind : ParserState → List ℕ → ℕ → Outcome → (ParserState → Reading) → Reading
+abbrev pub behind : (state : ParserState) (packet : List ℕ) (place : ℕ) (outcome : Outcome)
+    (rest : ParserState → Reading) → Reading
 behind state packet place (Continues part) rest =
     rest (record { part = part; interfaces = interfaces_behind state.part state.interfaces })
 behind state packet place (EndsPacket info part) rest =
@@ -58,44 +59,45 @@ behind state packet place (Fails kind) rest =
 -- The reading of octets, if this part comes next after `at` other octets. The first number is a
 -- bound on how many parts are read. Each part has at least one octet, so there are no more parts
 -- than octets.
-unfoldable pub reading_from : ℕ → ParserState → ℕ → List ℕ → Reading
+unfoldable pub reading_from : (most : ℕ) (state : ParserState) (offset : ℕ) (octets : List ℕ) →
+    Reading
 reading_from zero state at octets = record { packets = []; ending = Within state at octets }
 reading_from (suc most) state at octets =
     if nat_lt (length octets) (size state.part)
     then record { packets = []; ending = Within state at octets }
     else behind state (packet_in state.part octets) (at + size state.part)
-    (next state.part state.interfaces (end_of state.part octets))
+    (outcome_after state.part state.interfaces (end_of state.part octets))
     (λ rest. reading_from most rest (at + size state.part) (drop (size state.part) octets))
 
 -- the state at the beginning of a capture
 abbrev pub start : ParserState
 start = record { part = parts.Beginning; interfaces = [] }
 
-unfoldable pub reading : List ℕ → Reading
-reading p = reading_from (length p) start 0 p
+unfoldable pub reading : (capture : List ℕ) → Reading
+reading capture = reading_from (length capture) start 0 capture
 
 -- the packets of a capture, or of as much of it as there is
-abbrev pub packets : List ℕ → List PacketRecord
-packets p = (reading p).packets
+abbrev pub packets : (capture : List ℕ) → List PacketRecord
+packets capture = (reading capture).packets
 
-abbrev pub fault_of : Ending → Option CaptureFault
+abbrev pub fault_of : (ending : Ending) → Option CaptureFault
 fault_of (Within state at octets) = None
 fault_of (Faulted fault) = Some fault
 
 -- the fault that the octets of a capture show, if they show one
-abbrev pub fault : List ℕ → Option CaptureFault
-fault p = fault_of (reading p).ending
+abbrev pub fault : (capture : List ℕ) → Option CaptureFault
+fault capture = fault_of (reading capture).ending
 
-abbrev pub truncated_at : ℕ → Part → List ℕ → Option CaptureFault
+abbrev pub truncated_at : (place : ℕ) (part : Part) (numbers : List ℕ) → Option CaptureFault
 truncated_at place part (octet ∷ octets) = Some (record { kind = Truncated; place = place })
 truncated_at place part [] =
     if may_end_before part then None else Some (record { kind = Truncated; place = place })
 
 -- the fault that a capture shows at its end, if it ends after this number of octets
-abbrev pub fault_at_end : ℕ → Ending → Option CaptureFault
+abbrev pub fault_at_end : (place : ℕ) (ending : Ending) → Option CaptureFault
 fault_at_end place (Within state at octets) = truncated_at place state.part octets
 fault_at_end place (Faulted fault) = Some fault
 
 -- the fault of a capture that ends here, if it has one
-abbrev pub final_fault : List ℕ → Option CaptureFault
-final_fault p = fault_at_end (length p) (reading p).ending
+abbrev pub final_fault : (capture : List ℕ) → Option CaptureFault
+final_fault capture = fault_at_end (length capture) (reading capture).ending

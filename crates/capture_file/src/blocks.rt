@@ -1,7 +1,7 @@
 //! What comes after each part of a pcapng file.
 
 ghost use Rattle.std.specs.Prelude.{◌≡◌, ◌+◌, ◌≤◌, ◌<◌, ◌⊎◌, ◌-◌, length, slice_get, slice_index, Option};
-ghost use Rattle.capture_file.specs.Blocks.{section_length, section, byte_order_magic, section_version, block_of, block_header, interface_header, options, option_header, ticks_of, time_unit, enhanced_interface, packet_of, nanoseconds_of, time_of, enhanced_header, cut, simple_header, block_end, least_length, padded, length_by_order};
+ghost use Rattle.capture_file.specs.Blocks.{section_length, section, byte_order_magic, section_version, block_of, block_header, interface_header, options, option_header, units_in_second, time_unit, enhanced_interface, packet_of, nanoseconds_of, time_of, enhanced_header, captured_size, simple_header, block_end, least_length, padded, length_by_order};
 ghost use Rattle.capture_file.specs.Fits.{Fits};
 
 use crate::fault::FaultKind;
@@ -207,9 +207,9 @@ pub fn option_header(block: Block, interface: Interface, octets: &[u8]) -> Outco
 }
 
 /// How many units of time make a second, by the number of the unit.
-fn ticks_of(unit: u8) -> u64
+fn units_in_second(unit: u8) -> u64
     requires { (unit < 20) ⊎ ((128 ≤ unit) × (unit < 192)) }
-    ensures { result ≡ ticks_of unit }
+    ensures { result ≡ units_in_second unit }
 {
     if unit < 128 {
         10u64.pow(u32::from(unit))
@@ -227,7 +227,7 @@ pub fn time_unit(block: Block, interface: Interface, octets: &[u8]) -> Outcome
 {
     let unit = octets[0];
     if unit < 20 || (unit >= 128 && unit < 192) {
-        let ticks = ticks_of(unit);
+        let ticks = units_in_second(unit);
         options(block, Interface { ticks, ..interface }, 3)
     } else {
         Outcome::Fails(FaultKind::Format)
@@ -310,8 +310,8 @@ pub fn enhanced_header(block: Block, interface: Interface, octets: &[u8]) -> Out
 }
 
 /// How many octets of a packet an interface captures, by the packet's original length.
-fn cut(original: u32, snapshot: u32) -> u32
-    ensures { result ≡ cut original snapshot }
+fn captured_octets(original: u32, snapshot: u32) -> u32
+    ensures { result ≡ captured_size original snapshot }
 {
     if snapshot == 0 {
         original
@@ -337,7 +337,7 @@ pub fn simple_header(block: Block, interfaces: &[Interface], octets: &[u8]) -> O
         Body {
             info: PacketInfo { link, time: None },
             packet_offset: 0,
-            captured: cut(original, interface.snapshot),
+            captured: captured_octets(original, interface.snapshot),
         },
     )
 }

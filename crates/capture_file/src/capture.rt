@@ -3,12 +3,12 @@
 ghost use Rattle.std.specs.Prelude.{◌≡◌, ℕ, true, ◌+◌, ◌-◌, ◌^◌, ◌<◌, ◌≤◌, min, Bool, List, [], ◌++◌, length, take, drop, Option, None, IfOk, IfSome, vec_len, vec_capacity};
 ghost use Rattle.std.specs.Option.{ForSome};
 ghost use Rattle.capture_file.specs.Parts.{front, passed, back, size};
-ghost use Rattle.capture_file.specs.Fits.{adds, HasRoom};
-ghost use Rattle.capture_file.specs.Format.{next, interfaces_behind};
+ghost use Rattle.capture_file.specs.Fits.{interfaces_added, HasRoom};
+ghost use Rattle.capture_file.specs.Format.{outcome_after, interfaces_behind};
 
 use crate::blocks::MOST_INTERFACES;
 use crate::fault::{CaptureFault, FaultKind};
-use crate::format::next;
+use crate::format::outcome_after;
 use crate::part::{Interface, Outcome, PacketInfo, Part};
 use crate::progress::{Packet, Progress};
 use crate::records::whole_record;
@@ -49,7 +49,7 @@ pub struct Capture {
     ghost interface_room: { 256 ≤ vec_capacity interfaces },
     ghost end_room: { length end_octets ≡ 16 },
     ghost fits: { front part ≤ 262148 },
-    ghost few_interfaces: { length interfaces.items + adds part ≤ 256 },
+    ghost few_interfaces: { length interfaces.items + interfaces_added part ≤ 256 },
     ghost within: { taken < size part },
     ghost few_packets: { packets ≤ octets },
     ghost range_ordered: { packet_range.start ≤ packet_range.end },
@@ -57,9 +57,9 @@ pub struct Capture {
 }
 
 impl Capture {
-    ghost use Rattle.capture_file.specs.CaptureState.{Reads, HasSameRoom, octets_of, Answers, IsRunning, IsIn, info_in, octets_in};
+    ghost use Rattle.capture_file.specs.CaptureState.{Reads, HasSameRoom, octets_of, Answers, RunsIfMore, PacketIsIn, info_in, octets_in};
     ghost use Rattle.capture_file.specs.Reading.{packets, final_fault};
-    ghost use Rattle.capture_file.specs.CaptureSteps.{Completes, PartBegins, EndsPacketAt, HoldsPiece, Advances};
+    ghost use Rattle.capture_file.specs.CaptureSteps.{Completes, PartBegins, EndsPacketAt, HoldsPiece, CountsOctets};
     ghost use Rattle.capture_file.specs.CaptureSteps.{IsRecordDue, TakesRecord};
 
     /// Makes a capture of which nothing was taken, with memory for one packet.
@@ -112,7 +112,7 @@ impl Capture {
             Reads self.new (p ++ take result.0 octets.now) }
         ensures answers { (p : List ℕ) → Reads self.old p →
             Answers result.1 p (take result.0 octets.now) self.new octets.now }
-        ensures packet { result.1 ≡ Progress.Packet → IsIn self.new octets.now }
+        ensures packet { result.1 ≡ Progress.Packet → PacketIsIn self.new octets.now }
         ensures octets { octets_of self.new ≡ octets_of self.old + result.0 }
         ensures some { result.1 ≡ Progress.Packet → 0 < result.0 }
         ensures within { result.0 ≤ length octets.now }
@@ -143,20 +143,20 @@ impl Capture {
             Reads self.new (p ++ take result.0 (drop start octets.now)) }
         ensures answers { (p : List ℕ) → Reads self.old p →
             Answers result.1 p (take result.0 (drop start octets.now)) self.new octets.now }
-        ensures packet { result.1 ≡ Progress.Packet → IsIn self.new octets.now }
-        ensures running { IsRunning result.1 self.new }
+        ensures packet { result.1 ≡ Progress.Packet → PacketIsIn self.new octets.now }
+        ensures running { RunsIfMore result.1 self.new }
         ensures octets { self.new.octets ≡ self.old.octets + result.0 }
         ensures some { 0 < result.0 }
         ensures within { start + result.0 ≤ length octets.now }
         ensures memory { HasSameRoom self.old self.new }
     {
-        if let Some((info, captured)) = self.due_record(&octets[start..]) {
+        if let Some((info, captured)) = self.whole_record_due(&octets[start..]) {
             return (self.take_record(info, start, captured), Progress::Packet);
         }
         let missing = self.part.size() - self.taken;
         let rest = &octets[start..];
         if missing > rest.len() as u64 {
-            self.hold(rest);
+            self.hold_part_piece(rest);
             return (rest.len(), Progress::More);
         }
         let count = missing as usize;
@@ -166,14 +166,14 @@ impl Capture {
         }
         let back = self.part.back() as usize;
         let end = &piece[count - back..];
-        self.advance(count);
-        (count, self.complete(end, start, false))
+        self.count_octets(count);
+        (count, self.end_part(end, start, false))
     }
 
     /// What is known of a packet and the number of its octets, if a record may begin here and these octets begin with the
     /// whole record.
     #[inline]
-    fn due_record(&self, octets: &[u8]) -> Option<(PacketInfo, usize)>
+    fn whole_record_due(&self, octets: &[u8]) -> Option<(PacketInfo, usize)>
         ensures { IfSome result (λ r. IsRecordDue self.now octets.now r.0 r.1) }
     {
         let Part::RecordHeader(file) = self.part else {
@@ -196,13 +196,13 @@ impl Capture {
         ensures memory { HasSameRoom self.old self.new }
     {
         let count = 16 + captured;
-        self.advance(count);
-        self.end_packet(info, start + 16, start + count, false);
+        self.count_octets(count);
+        self.note_packet(info, start + 16, start + count, false);
         count
     }
 
     /// Holds a piece of the part that has begun. The piece doesn't complete the part.
-    fn hold(&mut self, piece: &[u8])
+    fn hold_part_piece(&mut self, piece: &[u8])
         requires running { self.old.fault ≡ None }
         requires within { self.old.taken + length piece.now < size self.old.part }
         requires few { size self.old.part < 2 ^ 64 }
@@ -212,7 +212,7 @@ impl Capture {
         ensures octets { self.new.octets ≡ self.old.octets + length piece.now }
         ensures memory { HasSameRoom self.old self.new }
     {
-        self.hold_piece(piece);
+        self.keep_needed(piece);
         self.taken += piece.len() as u64;
     }
 
@@ -227,29 +227,29 @@ impl Capture {
         ensures reads { (p : List ℕ) → Reads self.old p → Reads self.new (p ++ piece.now) }
         ensures answers { (p octets : List ℕ) → Reads self.old p →
             Answers result p piece.now self.new octets }
-        ensures packet { (octets : List ℕ) → result ≡ Progress.Packet → IsIn self.new octets }
-        ensures running { IsRunning result self.new }
+        ensures packet { (octets : List ℕ) → result ≡ Progress.Packet → PacketIsIn self.new octets }
+        ensures running { RunsIfMore result self.new }
         ensures octets { self.new.octets ≡ self.old.octets + length piece.now }
         ensures memory { HasSameRoom self.old self.new }
     {
         let back = self.part.back() as usize;
-        self.hold_piece(piece);
+        self.keep_needed(piece);
         let end = self.end_octets;
-        self.complete(&end[..back], 0, true)
+        self.end_part(&end[..back], 0, true)
     }
 
     /// Counts octets that are taken.
-    fn advance(&mut self, count: usize)
+    fn count_octets(&mut self, count: usize)
         requires running { self.old.fault ≡ None }
         requires room { self.old.octets + count < 2 ^ 64 }
-        ensures advances { Advances self.old self.new count }
+        ensures advances { CountsOctets self.old self.new count }
         ensures memory { HasSameRoom self.old self.new }
     {
         self.octets += count as u64;
     }
 
     /// Keeps those octets of a piece that will be looked at, or given to the caller, when the part is complete.
-    fn hold_piece(&mut self, piece: &[u8])
+    fn keep_needed(&mut self, piece: &[u8])
         requires running { self.old.fault ≡ None }
         requires taken { self.old.taken + length piece.now < 2 ^ 64 }
         requires octets { self.old.octets + length piece.now < 2 ^ 64 }
@@ -268,25 +268,26 @@ impl Capture {
 
     /// Ends a part that is complete, by the octets at its end. The part began at this index of the octets that the caller
     /// gave, or is held.
-    fn complete(&mut self, end: &[u8], start: usize, held: bool) -> Progress
+    fn end_part(&mut self, end: &[u8], start: usize, held: bool) -> Progress
         requires running { self.old.fault ≡ None }
         requires back { length end.now ≡ back self.old.part }
         requires some { self.old.packets < self.old.octets }
         requires room { start + front self.old.part < 2 ^ 64 }
-        ensures completes { Completes (next self.old.part self.old.interfaces.items end.now)
+        ensures completes { Completes
+            (outcome_after self.old.part self.old.interfaces.items end.now)
             self.old self.new result start held }
         ensures memory { HasSameRoom self.old self.new }
     {
-        match next(&self.part, &self.interfaces, end) {
+        match outcome_after(&self.part, &self.interfaces, end) {
             Outcome::Continues(part) => {
-                self.begin(part);
+                self.begin_part(part);
                 Progress::More
             }
             Outcome::EndsPacket(info, part) => {
                 let from = start + self.part.packet_offset() as usize;
                 let to = start + self.part.front() as usize;
-                self.end_packet(info, from, to, held);
-                self.begin(part);
+                self.note_packet(info, from, to, held);
+                self.begin_part(part);
                 Progress::Packet
             }
             Outcome::Fails(kind) => {
@@ -298,10 +299,10 @@ impl Capture {
         }
     }
 
-    /// Ends a packet. Its octets stand between these two indices of the octets that the caller gave, or of those that are
-    /// held.
+    /// Notes a packet that has just become complete, and counts it: what is known of it, and that its octets stand between
+    /// these two indices, of the octets that are held, or else of those that the caller gave.
     #[inline]
-    fn end_packet(&mut self, info: PacketInfo, start: usize, end: usize, held: bool)
+    fn note_packet(&mut self, info: PacketInfo, start: usize, end: usize, held: bool)
         requires some { self.old.packets < self.old.octets }
         requires order { start ≤ end }
         ensures ends { EndsPacketAt self.old self.new
@@ -319,7 +320,7 @@ impl Capture {
 
     /// Begins the part that comes next.
     #[tactic(auto, using(crate::proofs::ReadingSteps::size_some))]
-    fn begin(&mut self, part: Part)
+    fn begin_part(&mut self, part: Part)
         requires room { HasRoom
             (256 - length (interfaces_behind self.old.part self.old.interfaces.items)) part }
         ensures begins { PartBegins self.old self.new part }
@@ -338,7 +339,7 @@ impl Capture {
 
     /// The packet that the last call of `take` completed. The caller gives the same octets again.
     pub fn packet<'a>(&'a self, octets: &'a [u8]) -> Packet<'a>
-        requires { IsIn self.now octets.now }
+        requires { PacketIsIn self.now octets.now }
         ensures link { result.link ≡ (info_in self.now).link }
         ensures time { result.time ≡ (info_in self.now).time }
         ensures octets { result.octets.now ≡ octets_in self.now octets.now }

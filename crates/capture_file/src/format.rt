@@ -2,18 +2,18 @@
 
 ghost use Rattle.std.specs.Prelude.{◌≡◌, ◌+◌, ◌-◌, ◌≤◌, length};
 ghost use Rattle.capture_file.specs.Parts.{back};
-ghost use Rattle.capture_file.specs.Format.{next, interfaces_behind};
-ghost use Rattle.capture_file.specs.Fits.{Fits, adds};
+ghost use Rattle.capture_file.specs.Format.{outcome_after, interfaces_behind};
+ghost use Rattle.capture_file.specs.Fits.{Fits, interfaces_added};
 
 use crate::part::{Interface, Outcome, Part};
 use crate::{blocks, records};
 
 /// What comes after a part that ends in these octets, in a section that has these interfaces.
 #[tactic(auto, using(crate::proofs::Fitting::fits_more))]
-pub fn next(part: &Part, interfaces: &[Interface], octets: &[u8]) -> Outcome
+pub fn outcome_after(part: &Part, interfaces: &[Interface], octets: &[u8]) -> Outcome
     requires back { length octets.now ≡ back part.now }
-    requires room { length interfaces.now + adds part.now ≤ 256 }
-    ensures value { result ≡ next part.now interfaces.now octets.now }
+    requires room { length interfaces.now + interfaces_added part.now ≤ 256 }
+    ensures value { result ≡ outcome_after part.now interfaces.now octets.now }
     ensures fits { Fits (256 - length (interfaces_behind part.now interfaces.now)) result }
 {
     match *part {

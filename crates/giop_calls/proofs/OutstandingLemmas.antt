@@ -3,7 +3,7 @@ use Rattle.std.proofs.Common.{◌≡◌, ℕ, zero, suc, ◌+◌, ◌-◌, ◌�
 use Rattle.std.specs.List.{AllByRecursion as Each, filter, find, remove, position_from}
 use Rattle.std.proofs.lemmas.Bool.{eqb-true, eqb-false, ne_eqb}
 use Rattle.giop_entry_table.specs.declared.entry_table.Entry.{Entry}
-use Rattle.giop_calls.specs.Outstanding.{without, AreApart}
+use Rattle.giop_calls.specs.Outstanding.{without, HaveDistinctIds}
 
 module _ {V : Type 0} where
   -- the entry that is found is at the index that the search gives
@@ -67,7 +67,7 @@ module _ {V : Type 0} where
 
   -- without the first call of an id there is no call of the id, because each call has an id of its
   -- own
-  removed : (id : ℕ) (es : List (Entry V)) (from : ℕ) → AreApart es →
+  removed : (id : ℕ) (es : List (Entry V)) (from : ℕ) → HaveDistinctIds es →
       IfSome (position_from (λ e. e.key == id) from es)
       (λ index. (from ≤ index) × (remove es (index - from) ≡ without id es))
   removed id [] from apart = tt
@@ -93,7 +93,7 @@ module _ {V : Type 0} where
           rw (is, here) (omega arith, sym (all_others id es (rw same at apart.0)))
       by false is rest = rw is (later _ rest)
 
-  pub removed_at : (id : ℕ) (es : List (Entry V)) (index : ℕ) → AreApart es →
+  pub removed_at : (id : ℕ) (es : List (Entry V)) (index : ℕ) → HaveDistinctIds es →
       position_from (λ e. e.key == id) 0 es ≡ Some index → remove es index ≡ without id es
   removed_at id es index apart is =
       let from_zero : index - 0 ≡ index = omega arith in
@@ -108,12 +108,13 @@ module _ {V : Type 0} where
       by true is rest = rw is (all.0, rest)
       by false is rest = rw is rest
 
-  pub apart_without : (id : ℕ) (es : List (Entry V)) → AreApart es → AreApart (without id es)
+  pub apart_without : (id : ℕ) (es : List (Entry V)) → HaveDistinctIds es →
+      HaveDistinctIds (without id es)
   apart_without id [] apart = tt
   apart_without id (e ∷ es) apart = by (e.key == id) refl (apart_without id es apart.1)
     where
-      by : (b : Bool) → (e.key == id) ≡ b → AreApart (without id es) →
-          AreApart (without id (e ∷ es))
+      by : (b : Bool) → (e.key == id) ≡ b → HaveDistinctIds (without id es) →
+          HaveDistinctIds (without id (e ∷ es))
       by true is rest = rw is rest
       by false is rest = rw is (each_filter _ _ es apart.0, rest)
 
@@ -134,8 +135,8 @@ module _ {V : Type 0} where
   each_drop P (suc n) [] all = tt
   each_drop P (suc n) (e ∷ es) all = each_drop P n es all.1
 
-  pub apart_push : (es : List (Entry V)) (e : Entry V) → AreApart es →
-      Each (λ other. (other.key == e.key) ≡ false) es → AreApart (es ++ e ∷ [])
+  pub apart_push : (es : List (Entry V)) (e : Entry V) → HaveDistinctIds es →
+      Each (λ other. (other.key == e.key) ≡ false) es → HaveDistinctIds (es ++ e ∷ [])
   apart_push [] e apart others = (tt, tt)
   apart_push (x ∷ xs) e apart others =
       (last xs apart.0, apart_push xs e apart.1 others.1)

@@ -6,14 +6,14 @@ use Rattle.giop_entry_table.specs.declared.entry_table.Entry.{Entry}
 
 module _ {V : Type 0} where
   -- the calls of other ids
-  abbrev pub without : ℕ → List (Entry V) → List (Entry V)
+  abbrev pub without : (id : ℕ) (calls : List (Entry V)) → List (Entry V)
   without id calls = filter (λ e. not (e.key == id)) calls
 
   -- the newest of the calls, at most `most` of them
-  abbrev pub newest : ℕ → List (Entry V) → List (Entry V)
+  abbrev pub newest : (most : ℕ) (calls : List (Entry V)) → List (Entry V)
   newest most calls = drop (length calls - most) calls
 
   -- each call has an id of its own
-  abbrev pub AreApart : List (Entry V) → Type 0
-  AreApart [] = Unit
-  AreApart (e ∷ es) = Each (λ other. (other.key == e.key) ≡ false) es × AreApart es
+  abbrev pub HaveDistinctIds : (entries : List (Entry V)) → Type 0
+  HaveDistinctIds [] = Unit
+  HaveDistinctIds (e ∷ es) = Each (λ other. (other.key == e.key) ≡ false) es × HaveDistinctIds es

@@ -39,14 +39,15 @@ pub struct Calls {
 impl Model for Calls {
     ghost use Rattle.std.specs.Prelude.{◌≤◌, length};
     ghost use Rattle.giop_calls.specs.declared.calls.Call.{Call};
-    ghost use Rattle.giop_calls.specs.Outstanding.{AreApart};
+    ghost use Rattle.giop_calls.specs.Outstanding.{HaveDistinctIds};
     ghost use Rattle.giop_entry_table.specs.EntryTable.{Entries};
 
     ghost Value = { Entries Call };
 
     ghost view = { λ c. c.table };
 
-    ghost invariant = { λ c. AreApart c.table.entries × (length c.table.entries ≤ c.table.most) };
+    ghost invariant = { λ c. HaveDistinctIds c.table.entries ×
+        (length c.table.entries ≤ c.table.most) };
 }
 
 impl Calls {

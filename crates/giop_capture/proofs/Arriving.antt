@@ -11,9 +11,9 @@ use Rattle.tcp_connections.specs.declared.connections.Connections.{Connections}
 use Rattle.tcp_connections.specs.Connections.{State, with_packet}
 use Rattle.tcp_connections.specs.State.{IsState}
 use Rattle.giop_print.specs.declared.sink.OutFault.{OutFault}
-use Rattle.giop_capture.specs.Packets.{Taken}
-use Rattle.giop_capture.specs.Arrivals.{with_segment, packet_arrived, after_packets, links_noted, links_from, link_notices, notices_from, notices_told}
-use Rattle.giop_capture.specs.Notices.{once, seen, new_notices}
+use Rattle.giop_capture.specs.Packets.{PacketView}
+use Rattle.giop_capture.specs.Arrivals.{with_segment, packet_arrived, after_packets, links_noted, links_from, link_notices, notices_from, notices_due}
+use Rattle.giop_capture.specs.Notices.{notice_if_new, seen, new_notices}
 use Rattle.giop_capture.specs.declared.notices.Notice.{Notice}
 use Rattle.giop_capture.specs.declared.notices.Notice.TheVariants.{NoRoom, Tls, Ziop}
 use Rattle.giop_capture.specs.declared.notices.Seen.{Seen}
@@ -34,19 +34,19 @@ pub heard_ok : (A : Type 0) (a : Result (Unit {0}) ListenerError) (r : Result (U
 heard_ok A (Ok value) r u e is h = h
 heard_ok A (Err fault) r u e is h = cc
 
-pub after_more : (F : Reader) (w : State) (ps : List Taken) (p : Taken)
+pub after_more : (F : Reader) (w : State) (ps : List PacketView) (p : PacketView)
     → after_packets F w (ps ++ p ∷ []) ≡ packet_arrived F (after_packets F w ps) p
 unfolding after_packets
 after_more F w [] p = refl
 after_more F w (q ∷ ps) p = after_more F (packet_arrived F w q) ps p
 
-pub links_more : (told : List ℕ) (ps : List Taken) (p : Taken)
+pub links_more : (told : List ℕ) (ps : List PacketView) (p : PacketView)
     → links_from told (ps ++ p ∷ []) ≡ links_noted (links_from told ps) p.info.link
 unfolding links_from
 links_more told [] p = refl
 links_more told (q ∷ ps) p = links_more (links_noted told q.info.link) ps p
 
-pub notices_more : (F : Reader) (w : State) (told : List ℕ) (ps : List Taken) (p : Taken)
+pub notices_more : (F : Reader) (w : State) (told : List ℕ) (ps : List PacketView) (p : PacketView)
     → notices_from F w told (ps ++ p ∷ [])
     ≡ notices_from F w told ps ++ (link_notices (links_from told ps) p.info.link
     ++ new_notices (seen (after_packets F w ps).events)
@@ -62,7 +62,7 @@ notices_more F w told (q ∷ ps) p =
 
 -- ---- Which notices one more packet gives.
 
-seen_before : (n : Notice) (b : Bool) → once n b b ≡ []
+seen_before : (n : Notice) (b : Bool) → notice_if_new n b b ≡ []
 seen_before n true = refl
 seen_before n false = refl
 
@@ -70,8 +70,9 @@ nothing_new : (s : Seen) → new_notices s s ≡ []
 nothing_new s = rw (seen_before NoRoom s.room, seen_before Tls s.tls, seen_before Ziop s.ziop) refl
 
 -- a packet without a segment: only its link type may give a notice
-pub told_link : (T : List Notice → Type 0) (F : Reader) (start : State) (ps : List Taken)
-    (p : Taken) (told due : List Notice) → segment p.info.link p.octets ≡ None → T (told ++ due)
+pub told_link : (T : List Notice → Type 0) (F : Reader) (start : State) (ps : List PacketView)
+    (p : PacketView) (told due : List Notice) → segment p.info.link p.octets ≡ None →
+    T (told ++ due)
     → T (told ++ (due ++ new_notices (seen (after_packets F start ps).events)
     (seen (packet_arrived F (after_packets F start ps) p).events)))
 unfolding packet_arrived
@@ -97,7 +98,8 @@ told_seen T told due before after first next b a h =
 -- the segment of the packet came, or the packet has none
 pub segment_came : (O : List Event → Type 0) (live : List ℕ) (c : Connections) (F : Reader)
     (start : State)
-    (ps : List Taken) (p : Taken) (found : Option Segment) → segment p.info.link p.octets ≡ found
+    (ps : List PacketView) (p : PacketView) (found : Option Segment) → segment p.info.link p.octets
+    ≡ found
     → IsState O live c
     (with_segment F (with_packet (after_packets F start ps) p.info.time) found)
     → IsState O live c (after_packets F start (ps ++ p ∷ []))
@@ -123,7 +125,7 @@ both A B (Err fault) a b = tt
 -- one more packet was read, and the connections have the state that it leads to
 pub read_more : (O O' : List Event → Type 0) (T T' : List Notice → Type 0) (F : Reader)
     (c c' : Connections)
-    (live live' links links' : List ℕ) (start : State) (ps : List Taken) (p : Taken)
+    (live live' links links' : List ℕ) (start : State) (ps : List PacketView) (p : PacketView)
     → HasRead O T F c live links start ps
     → IsState O' live' c' (after_packets F start (ps ++ p ∷ [])) → c'.segments ≤ c.segments + 1
     → links' ≡ links_noted links p.info.link
@@ -136,5 +138,5 @@ read_more O O' T T' F c c' live live' links links' start ps p h state few same t
       state = state;
       few = let n = length-append ps (p ∷ []) in let before = h.few in omega arith;
       all = same ∙ (ap (λ v. links_noted v p.info.link) h.all ∙ sym (links_more [] ps p));
-      told = rw (notices_more F start [] ps p, ← h.all) (told (notices_told F start ps) h.told);
+      told = rw (notices_more F start [] ps p, ← h.all) (told (notices_due F start ps) h.told);
     }

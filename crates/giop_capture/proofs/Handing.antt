@@ -7,7 +7,7 @@ use Rattle.capture_file.specs.declared.fault.CaptureFault.{CaptureFault}
 use Rattle.capture_file.specs.declared.progress.Packet.{Packet}
 use Rattle.capture_file.specs.CaptureState.{Reads, info_in, octets_in}
 use Rattle.capture_file.specs.Reading.{PacketRecord, packets, fault}
-use Rattle.giop_capture.specs.Packets.{Taken, HandedOn, taken, taken_of, packet_view}
+use Rattle.giop_capture.specs.Packets.{PacketView, HasGivenPackets, view_of_record, capture_packets, packet_view}
 use Rattle.giop_capture.proofs.ShortPackets.{short}
 
 -- what was read, and what a call took, come before what is left
@@ -18,11 +18,11 @@ seam octets read rest n whole =
     ∙ sym (append_assoc read (take n rest) (drop n rest)))
 
 -- what a call took is read too
-pub handed_more : (HasTaken : List Taken → Type 0) (d : Capture) (p octets read rest : List ℕ)
+pub handed_more : (HasTaken : List PacketView → Type 0) (d : Capture) (p octets read rest : List ℕ)
     (n : ℕ)
     → octets ≡ read ++ rest → Reads d ((p ++ read) ++ take n rest)
-    → HasTaken (taken_of ((p ++ read) ++ take n rest))
-    → HandedOn HasTaken d p octets (read ++ take n rest) (drop n rest)
+    → HasTaken (capture_packets ((p ++ read) ++ take n rest))
+    → HasGivenPackets HasTaken d p octets (read ++ take n rest) (drop n rest)
 handed_more HasTaken d p octets read rest n whole reads taken =
     let same = append_assoc p read (take n rest) in
     record {
@@ -48,7 +48,7 @@ pub one_more : (c : Capture) (p more octets : List ℕ) (packet : Packet)
     } ∷ []
     → packet.link ≡ (info_in c).link → packet.time ≡ (info_in c).time →
     packet.octets.now ≡ octets_in c octets
-    → taken_of (p ++ more) ≡ taken_of p ++ packet_view packet ∷ []
+    → capture_packets (p ++ more) ≡ capture_packets p ++ packet_view packet ∷ []
 one_more c p more octets packet e link time same =
     let r : PacketRecord = record {
       place = length (p ++ more);
@@ -56,8 +56,9 @@ one_more c p more octets packet e link time same =
       octets =
           octets_in c octets;
     } in
-    let view : taken r ≡ packet_view packet = rw (link, time, same) refl in
-    ap (map taken) e ∙ (map-append taken (packets p) (r ∷ []) ∙ ap (λ v. taken_of p ++ v ∷ []) view)
+    let view : view_of_record r ≡ packet_view packet = rw (link, time, same) refl in
+    ap (map view_of_record) e ∙ (map-append view_of_record (packets p) (r ∷ [])
+    ∙ ap (λ v. capture_packets p ++ v ∷ []) view)
 
 -- the packet isn't longer than a packet may be
 pub packet_short : (c : Capture) (p more octets : List ℕ) (packet : Packet)

@@ -18,7 +18,7 @@ use Rattle.capture_file.specs.Parts.{front, packet_offset}
 use Rattle.capture_file.specs.Records.{beginning, file_version, file_rest, record_header}
 use Rattle.capture_file.specs.Blocks.{section_length, section, byte_order_magic, section_version, block_header, block_of, interface_header, options, option_header, time_unit, of_interface, enhanced_interface, enhanced_header, of_first_interface, simple_header, block_end, packet_of}
 use Rattle.capture_file.specs.Numbers.{four_at}
-use Rattle.capture_file.specs.Format.{next}
+use Rattle.capture_file.specs.Format.{outcome_after}
 use Rattle.capture_file.specs.Parts.{size}
 use Rattle.capture_file.specs.declared.capture.Capture.{Capture}
 use Rattle.capture_file.specs.CaptureState.{Reads}
@@ -148,7 +148,7 @@ unfolding simple_header
 short_simple block interfaces octets = short_first _ _ _
 
 short_next : (part : Part) (interfaces : List Interface) (octets : List ℕ) →
-    AreShort (next part interfaces octets)
+    AreShort (outcome_after part interfaces octets)
 short_next parts.Beginning interfaces octets = short_beginning octets
 short_next (parts.FileVersion magic) interfaces octets = short_version magic octets
 short_next (parts.FileRest magic) interfaces octets = short_rest magic octets
@@ -175,7 +175,7 @@ short_next (parts.BlockEnd block) interfaces octets = short_end block octets _ (
 
 -- ---- A whole reading.
 
-abbrev AllShort : List PacketRecord → Type 0
+abbrev AllShort : (packet_records : List PacketRecord) → Type 0
 AllShort [] = Unit {0}
 AllShort (r ∷ rs) = (length r.octets ≤ 262144) × AllShort rs
 

@@ -5,12 +5,12 @@ use Rattle.std.proofs.lemmas.List.{length-drop, length-take}
 use Rattle.tcp_segment.specs.declared.frame.Version.{Version}
 use Rattle.tcp_segment.specs.declared.frame.Version.TheVariants.{V4, V6}
 use Rattle.tcp_segment.specs.Octets.{◌>>=◌, provided}
-use Rattle.tcp_segment.specs.Frames.{Packet, is_tag, behind_tag, behind_tags, version_of_type, typed, ethernet, cooked, cooked_2, loopback, raw, packet_of}
-use Rattle.tcp_segment.specs.Datagrams.{Datagram, limited, behind_header, ipv4, behind_extension, behind_extensions, payload_of, behind_headers, between_hosts, ipv6, datagram_by, datagram_of}
+use Rattle.tcp_segment.specs.Frames.{Packet, is_tag, behind_tag, behind_tags, version_of_type, packet_of_type, ethernet, cooked, cooked_2, loopback, raw, packet_of}
+use Rattle.tcp_segment.specs.Datagrams.{Datagram, cut_to_length, ipv4_behind_header, ipv4, behind_extension, behind_extensions, ipv6_payload, tcp_behind_headers, between_hosts, ipv6, datagram_by, datagram_of}
 use Rattle.tcp_segment.specs.Segments.{Segment, header_size, segment_in, segment}
 
 -- if there is a value, its size is at most `most`
-abbrev IsWithin : {A : Type 0} → (A → ℕ) → ℕ → Option A → Type 0
+abbrev IsWithin : {A : Type 0} (size : A → ℕ) (most : ℕ) (a : Option A) → Type 0
 IsWithin size most None = Unit {0}
 IsWithin size most (Some a) = size a ≤ most
 
@@ -50,7 +50,7 @@ any_then size' most (Some a) f k = k a
 
 -- ---- Frames.
 
-abbrev tail_size : ℕ × List ℕ → ℕ
+abbrev tail_size : (p : ℕ × List ℕ) → ℕ
 tail_size p = length p.1
 
 abbrev packet_size : Packet → ℕ
@@ -84,8 +84,8 @@ tags (suc more) kind octets most h =
     (something (kind, octets) h)
 
 typed_within : (kind : ℕ) (octets : List ℕ) (most : ℕ) → length octets ≤ most
-    → Within packet_size most (typed kind octets)
-unfolding typed
+    → Within packet_size most (packet_of_type kind octets)
+unfolding packet_of_type
 typed_within kind octets most h =
     then_within tail_size packet_size most (behind_tags 4 kind octets) _ (tags 4 kind octets most h)
     (λ next k. any_then packet_size most (version_of_type next.0) _ (λ version. something _ k))
@@ -110,12 +110,12 @@ framed link octets most h =
 -- ---- Datagrams.
 
 limit : (n : ℕ) (octets : List ℕ) (most : ℕ) → length octets ≤ most →
-    length (limited n octets) ≤ most
-unfolding limited
+    length (cut_to_length n octets) ≤ most
+unfolding cut_to_length
 limit n octets most h = grind (arith, taken, h)
 
 header : (octets packet : List ℕ) (most : ℕ) → length packet ≤ most
-    → Within datagram_size most (behind_header octets packet)
+    → Within datagram_size most (ipv4_behind_header octets packet)
 header octets packet most h = provided_within _ _ (something _ (dropped _ most packet h))
 
 four : (octets : List ℕ) (most : ℕ) → length octets ≤ most → Within datagram_size most (ipv4 octets)
@@ -138,11 +138,11 @@ extensions (suc more) kind octets most h =
     (something (kind, octets) h)
 
 headers : (octets : List ℕ) (most : ℕ) → length octets ≤ most →
-    Within length most (behind_headers octets)
-unfolding behind_headers payload_of
+    Within length most (tcp_behind_headers octets)
+unfolding tcp_behind_headers ipv6_payload
 headers octets most h =
-    then_within tail_size length most (behind_extensions 8 _ (payload_of octets)) _
-    (extensions 8 _ (payload_of octets) most (limit _ _ most (dropped 40 most octets h)))
+    then_within tail_size length most (behind_extensions 8 _ (ipv6_payload octets)) _
+    (extensions 8 _ (ipv6_payload octets) most (limit _ _ most (dropped 40 most octets h)))
     (λ upper k. provided_within _ _ (something _ k))
 
 hosts : (octets : List ℕ) (most : ℕ) (o : Option (List ℕ)) → Within length most o
@@ -152,7 +152,7 @@ hosts octets most (Some upper) h = something _ h.within
 
 six : (octets : List ℕ) (most : ℕ) → length octets ≤ most → Within datagram_size most (ipv6 octets)
 unfolding ipv6
-six octets most h = provided_within _ _ (hosts octets most (behind_headers octets)
+six octets most h = provided_within _ _ (hosts octets most (tcp_behind_headers octets)
     (headers octets most h))
 
 either : (version : Version) (octets : List ℕ) (most : ℕ) → length octets ≤ most

@@ -17,7 +17,7 @@ use Rattle.giop_run.specs.declared.fault.RunFault.TheVariants as runs
 use Rattle.giop_run.specs.declared.fault.ProgramError.{ProgramError}
 use Rattle.giop_run.specs.declared.fault.ProgramError.TheVariants as faults
 use Rattle.giop_capture.specs.declared.arguments.Arguments.{Arguments}
-use Rattle.giop_capture.specs.Packets.{HandedOn, Ran}
+use Rattle.giop_capture.specs.Packets.{HasGivenPackets, Ran}
 use Rattle.giop_capture.specs.Notices.{seen}
 use Rattle.giop_capture.specs.declared.notices.Seen.{Seen}
 use Rattle.giop_capture.specs.declared.notices.Notice.{Notice}
@@ -26,8 +26,8 @@ use Rattle.giop_capture.specs.Text.{HasTextSoFar}
 use Rattle.giop_capture.specs.Steps.{ReadInPart, RunFailed}
 
 -- the conversations have followed the events, and written their text
-abbrev pub Observed : {O : Type 0} → (Setup → List ℕ → Type 0) → Conversations O → Seen →
-    List Event → Type 0
+abbrev pub Observed : {O : Type 0} (begins : Setup → List ℕ → Type 0) (c : Conversations O)
+    (s : Seen) (events : List Event) → Type 0
 Observed begins c s events =
     Follows c events
     × ((S : Setup) (written : List ℕ) → begins S written → IsWritten S written events c)
@@ -47,7 +47,8 @@ in_part : {O : Type 0} (begins : Setup → List ℕ → Type 0) (c : Conversatio
     (live links : List ℕ)
     (capture : Capture) (s : List ℕ) (before after : SourceLog) (put : Option (List ℕ))
     → put ≡ c.out.whole → Consumes before.left after.left s
-    → HandedOn (HasRead (Observed begins c made) IsWritten stream_reader connections live links
+    → HasGivenPackets (HasRead (Observed begins c made) IsWritten stream_reader connections live
+    links
     (none_known asked.ports.items asked.pool asked.connections [])) capture [] s s []
     → ReadInPart begins asked before.left put
 in_part begins c made IsWritten asked connections live links capture s before after put same given

@@ -11,9 +11,9 @@ use Rattle.giop_conversation.specs.declared.conversations.Conversations.{Convers
 use Rattle.giop_conversation.specs.Captured.{Setup, finished_text}
 use Rattle.giop_conversation.specs.DumpWritten.{IsWritten}
 use Rattle.giop_conversation.specs.Follows.{Follows}
-use Rattle.giop_conversation.specs.Followed.{octets_behind, octets_from, HaveFollowed}
+use Rattle.giop_conversation.specs.Followed.{octets_after_event, octets_after_events, HaveFollowed}
 use Rattle.giop_capture.specs.declared.notices.Seen.{Seen}
-use Rattle.giop_capture.specs.Notices.{is_room, is_tls, is_ziop, makes_room, passes_by, seen, seen_after}
+use Rattle.giop_capture.specs.Notices.{is_for_room, begins_as_tls, begins_as_ziop, makes_room, passes_by, seen, seen_after}
 use Rattle.giop_capture.specs.Text.{HasText}
 
 or_false : (b : Bool) → (b || false) ≡ b
@@ -21,10 +21,11 @@ or_false true = refl
 or_false false = refl
 
 same_octets : (flow : ℕ) (p : List ℕ) (events : List Event) (event : CaptureEvent)
-    → octets_from flow p (events ++ OfCapture event ∷ []) ≡ octets_from flow p events
-unfolding octets_from octets_behind
+    → octets_after_events flow p (events ++ OfCapture event ∷ []) ≡ octets_after_events flow p
+    events
+unfolding octets_after_events octets_after_event
 same_octets flow p [] event = refl
-same_octets flow p (e ∷ es) event = same_octets flow (octets_behind flow p e) es event
+same_octets flow p (e ∷ es) event = same_octets flow (octets_after_event flow p e) es event
 
 pub followed_on : (slots : List Conversation) (events : List Event) (event : CaptureEvent)
     → HaveFollowed slots events → HaveFollowed slots (events ++ OfCapture event ∷ [])
@@ -42,8 +43,8 @@ seen_more : (events : List Event) (e : Event) → seen (events ++ e ∷ []) ≡ 
 seen_more events e =
     rw (
       any_more makes_room events e,
-      any_more (passes_by is_tls) events e,
-      any_more (passes_by is_ziop) events e,
+      any_more (passes_by begins_as_tls) events e,
+      any_more (passes_by begins_as_ziop) events e,
     ) refl
 
 -- what is known of all events is known after one more event
@@ -54,7 +55,7 @@ seen_on events e before after same now =
 
 -- an event that no notice is given of changes nothing
 pub seen_stays : (events : List Event) (e : Event) (s : Seen) → makes_room e ≡ false →
-    passes_by is_tls e ≡ false → passes_by is_ziop e ≡ false →
+    passes_by begins_as_tls e ≡ false → passes_by begins_as_ziop e ≡ false →
     s ≡ seen events → s ≡ seen (events ++ e ∷ [])
 seen_stays events e s room tls ziop same =
     seen_on events e s s same
@@ -62,7 +63,7 @@ seen_stays events e s room tls ziop same =
 
 -- what was seen after a stream closes
 pub seen_closed : (s : Seen) (flow : ℕ) (cause : CloseCause) (room : Bool) →
-    room ≡ (s.room || is_room cause) →
+    room ≡ (s.room || is_for_room cause) →
     record s { room = room } ≡ seen_after s (Closes flow cause)
 seen_closed s flow cause room is = rw (is, or_false s.tls, or_false s.ziop) refl
 

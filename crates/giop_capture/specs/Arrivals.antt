@@ -8,45 +8,46 @@ use Rattle.tcp_segment.specs.Links.{is_link_read}
 use Rattle.tcp_segment.specs.Segments.{Segment, segment}
 use Rattle.tcp_flow.specs.Flow.{Event, Reader, HasFault}
 use Rattle.tcp_connections.specs.Connections.{State, with_packet, with_capture_event, step, ended}
-use Rattle.giop_capture.specs.Links.{is_new, noted_after}
+use Rattle.giop_capture.specs.Links.{is_new_link, noted_after}
 use Rattle.giop_capture.specs.Notices.{seen, new_notices}
 use Rattle.giop_capture.specs.declared.notices.Notice.{Notice}
 use Rattle.giop_capture.specs.declared.notices.Notice.TheVariants.{UnreadLink}
-use Rattle.giop_capture.specs.Packets.{Taken, taken_of}
+use Rattle.giop_capture.specs.Packets.{PacketView, capture_packets}
 
 -- after the segment of a packet came, if the packet has one
-abbrev pub with_segment : Reader → State → Option Segment → State
+abbrev pub with_segment : (reader : Reader) (before : State) (segment : Option Segment) → State
 with_segment F w None = w
 with_segment F w (Some s) = step F w s
 
 -- after one more packet: its time is noted, and its segment comes
-unfoldable pub packet_arrived : Reader → State → Taken → State
+unfoldable pub packet_arrived : (reader : Reader) (before : State) (packet : PacketView) → State
 packet_arrived F w p =
     with_segment F (with_packet w p.info.time) (segment p.info.link p.octets)
 
 -- after all packets, in their order
-unfoldable pub after_packets : Reader → State → List Taken → State
+unfoldable pub after_packets : (F : Reader) (w : State) (takens : List PacketView) → State
 after_packets F w [] = w
 after_packets F w (p ∷ ps) = after_packets F (packet_arrived F w p) ps
 
 -- the segment of a packet as a list: none or one
-abbrev pub segment_in : Option Segment → List Segment
+abbrev pub segment_in : (segment : Option Segment) → List Segment
 segment_in None = []
 segment_in (Some s) = s ∷ []
 
 -- the segments of all packets
-abbrev pub segments_of : List Taken → List Segment
+abbrev pub segments_of : (packets : List PacketView) → List Segment
 segments_of packets = flat_map (λ p. segment_in (segment p.info.link p.octets)) packets
 
 -- after the fault of the capture, if it has one
-abbrev pub with_fault : State → Option CaptureFault → State
+abbrev pub with_fault : (before : State) (fault : Option CaptureFault) → State
 with_fault w None = w
 with_fault w (Some fault) = with_capture_event w (HasFault (fault_word fault.kind) fault.place)
 
 -- after a whole capture with these octets: its packets, then its fault, and then the end of its
 -- connections
-unfoldable pub capture_ended : Reader → State → List ℕ → State
-capture_ended F w p = ended F (with_fault (after_packets F w (taken_of p)) (final_fault p))
+unfoldable pub capture_ended : (F : Reader) (w : State) (capture : List ℕ) → State
+capture_ended F w capture =
+    ended F (with_fault (after_packets F w (capture_packets capture)) (final_fault capture))
 
 -- ---- Notices.
 
@@ -56,31 +57,33 @@ most_links = 16
 
 -- the link types that a notice was given of, after one more packet of this link type: if it isn't
 -- read, its first packet gives a notice
-abbrev pub links_noted : List ℕ → ℕ → List ℕ
+abbrev pub links_noted : (noted : List ℕ) (link : ℕ) → List ℕ
 links_noted noted link = if is_link_read link then noted else noted_after most_links noted link
 
 -- the link types that a notice was given of, after all packets, if a notice was given of `noted`
 -- before
-unfoldable pub links_from : List ℕ → List Taken → List ℕ
+unfoldable pub links_from : (noted : List ℕ) (takens : List PacketView) → List ℕ
 links_from noted [] = noted
 links_from noted (p ∷ ps) = links_from (links_noted noted p.info.link) ps
 
-abbrev pub links_told : List Taken → List ℕ
-links_told packets = links_from [] packets
+abbrev pub links_noticed : (packets : List PacketView) → List ℕ
+links_noticed packets = links_from [] packets
 
 -- the notice of a packet of this link type: only the first packet of a link type that isn't read
 -- has one
-abbrev pub link_notices : List ℕ → ℕ → List Notice
+abbrev pub link_notices : (noted : List ℕ) (link : ℕ) → List Notice
 link_notices noted link =
-    if is_link_read link then [] else cond (is_new most_links noted link) (UnreadLink link ∷ []) []
+    if is_link_read link then [] else cond (is_new_link most_links noted link) (UnreadLink link
+    ∷ []) []
 
 -- the notices of packets that come to a state, if a notice was given of these link types before
-unfoldable pub notices_from : Reader → State → List ℕ → List Taken → List Notice
+unfoldable pub notices_from : (F : Reader) (w : State) (noted : List ℕ) (takens : List PacketView) →
+    List Notice
 notices_from F w noted [] = []
 notices_from F w noted (p ∷ ps) =
     (link_notices noted p.info.link
     ++ new_notices (seen w.events) (seen (packet_arrived F w p).events))
     ++ notices_from F (packet_arrived F w p) (links_noted noted p.info.link) ps
 
-abbrev pub notices_told : Reader → State → List Taken → List Notice
-notices_told F w packets = notices_from F w [] packets
+abbrev pub notices_due : (F : Reader) (w : State) (packets : List PacketView) → List Notice
+notices_due F w packets = notices_from F w [] packets

@@ -10,14 +10,14 @@ use Rattle.tcp_connections.specs.declared.connections.Connections.{Connections}
 use Rattle.tcp_connections.specs.Connections.{State}
 use Rattle.tcp_connections.specs.State.{IsAt}
 use Rattle.giop_run.specs.SourceLog.{SourceLog}
-use Rattle.giop_run.specs.Running.{IsEnded}
+use Rattle.giop_run.specs.Running.{ReadFoundEnd}
 use Rattle.giop_run.specs.declared.fault.RunFault.{RunFault}
 use Rattle.capture_file.specs.declared.fault.FaultKind.{FaultKind}
 use Rattle.capture_file.specs.declared.fault.FaultKind.TheVariants as kinds
 use Rattle.giop_capture.specs.declared.ending.Ending.{Ending}
 use Rattle.giop_capture.specs.declared.ending.Ending.TheVariants as endings
-use Rattle.giop_capture.specs.Packets.{Taken, taken_of, Ran}
-use Rattle.giop_capture.specs.Arrivals.{capture_ended, notices_told}
+use Rattle.giop_capture.specs.Packets.{PacketView, capture_packets, Ran}
+use Rattle.giop_capture.specs.Arrivals.{capture_ended, notices_due}
 use Rattle.giop_capture.specs.declared.notices.Notice.{Notice}
 
 -- A capture was read to its end, or to its fault, after which nothing was read. The source gave the
@@ -32,40 +32,42 @@ pub record ReadWhole (O : List Event → Type 0) (Told : List Notice → Type 0)
   pub read : List ℕ
   pub rest : List ℕ
   pub parts : s ≡ read ++ rest
-  pub over : (IsEnded before after × (rest ≡ [])) ⊎ IsSome (fault read)
+  pub over : (ReadFoundEnd before after × (rest ≡ [])) ⊎ IsSome (fault read)
   pub reads : Reads c read
   pub fault : found ≡ final_fault read
   pub ended : IsAt O live connections (capture_ended F start read)
-  pub told : Told (notices_told F start (taken_of read))
+  pub told : Told (notices_due F start (capture_packets read))
 
 -- What a run did, by its result. If the source failed, or the reads were used up, the listener has
 -- taken the packets that came until then, and the capture hasn't ended.
-abbrev pub CaptureRan : Result (Option CaptureFault) RunFault → (List Taken → Type 0)
-    → (List Event → Type 0) → (List Notice → Type 0) → Reader → Connections → List ℕ → Capture
-    → State → List ℕ → SourceLog → SourceLog → Type 0
-CaptureRan (Ok found) HasTaken O Told F connections live c start s before after =
-    ReadWhole O Told F connections live c start s before after found
-CaptureRan (Err failed) HasTaken O Told F connections live c start s before after =
-    Ran (Err failed) HasTaken c s before after
+abbrev pub CaptureRan : (result : Result (Option CaptureFault) RunFault)
+    (HasTaken : List PacketView → Type 0) (Observed : List Event → Type 0) (Told : List Notice →
+    Type 0)
+    (F : Reader) (connections : Connections) (live : List ℕ) (c : Capture) (start : State)
+    (octets : List ℕ) (before after : SourceLog) → Type 0
+CaptureRan (Ok found) HasTaken Observed Told F connections live c start octets before after =
+    ReadWhole Observed Told F connections live c start octets before after found
+CaptureRan (Err failed) HasTaken Observed Told F connections live c start octets before after =
+    Ran (Err failed) HasTaken c octets before after
 
 -- how the dump of a capture ended, by whether the listener was told of a fault
-abbrev pub ending_by : Bool → Ending
-ending_by faulty = if faulty then endings.Faulty else endings.Whole
+abbrev pub ending_by_faulty : (faulty : Bool) → Ending
+ending_by_faulty faulty = if faulty then endings.Faulty else endings.Whole
 
 -- how a dump ended, by the rule that the capture breaks: if it doesn't begin as a capture, it is
 -- none
-abbrev pub ending_at : FaultKind → Bool → Ending
-ending_at (kinds.Magic file) faulty = endings.NoCapture file
-ending_at _ faulty = ending_by faulty
+abbrev pub ending_by_kind : (kind : FaultKind) (faulty : Bool) → Ending
+ending_by_kind (kinds.Magic file) faulty = endings.NoCapture file
+ending_by_kind _ faulty = ending_by_faulty faulty
 
 -- how a dump ended, by the fault of the capture, and by whether the listener was told of any fault
-abbrev pub ending_of : Option CaptureFault → Bool → Ending
-ending_of (Some fault) faulty = ending_at fault.kind faulty
-ending_of None faulty = ending_by faulty
+abbrev pub ending_of : (fault : Option CaptureFault) (faulty : Bool) → Ending
+ending_of (Some fault) faulty = ending_by_kind fault.kind faulty
+ending_of None faulty = ending_by_faulty faulty
 
 -- A capture was read whole, and all that is due was written. The listener was told of all before it
 -- wrote the last lines, which say whether it was told of a fault. After that it has finished.
-pub record Dumped {L : Type 0} (ending : Ending) (observed : L → List Event → Type 0)
+pub record DumpedWholeCapture {L : Type 0} (ending : Ending) (observed : L → List Event → Type 0)
     (finished : L → List Event → ℕ → ℕ → Bool → Type 0) (faulty : L → Bool) (F : Reader)
     (Told : List Notice → Type 0) (c : Capture) (start : State) (before after : SourceLog)
     (behind : L) : Type 0 where

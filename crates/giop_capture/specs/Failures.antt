@@ -12,6 +12,6 @@ fault_of (failures.Step fault) = fault
 fault_of (failures.Run fault out) = faults.Run fault
 
 -- the log of the out, if the run had begun
-abbrev pub log_of : {O : Type 0} → (O → OutLog) → DumpError O → Option OutLog
+abbrev pub log_of : {O : Type 0} (log : O → OutLog) (dump_error : DumpError O) → Option OutLog
 log_of log (failures.Step fault) = None
 log_of log (failures.Run fault out) = Some (log out)

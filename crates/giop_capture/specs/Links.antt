@@ -3,11 +3,12 @@
 use Rattle.std.specs.Prelude.{ℕ, ◌==◌, ◌||◌, Bool, cond, not, ltb, List, [], ◌∷◌, ◌++◌, length}
 use Rattle.std.specs.List.{list_any}
 
--- whether a link type is new: it isn't among those of `noted`, and these are fewer than `room`
-abbrev pub is_new : ℕ → List ℕ → ℕ → Bool
-is_new room noted link = not (list_any (λ other. other == link) noted || not (ltb (length noted)
+-- whether a link type is new: it isn't among those of `noted`, and these are fewer than `most`
+abbrev pub is_new_link : (most : ℕ) (noted : List ℕ) (link : ℕ) → Bool
+is_new_link room noted link = not (list_any (λ other. other == link) noted
+    || not (ltb (length noted)
     room))
 
 -- the link types of `noted` after one more packet of a link type that isn't read
-abbrev pub noted_after : ℕ → List ℕ → ℕ → List ℕ
-noted_after room noted link = cond (is_new room noted link) (noted ++ link ∷ []) noted
+abbrev pub noted_after : (most : ℕ) (noted : List ℕ) (link : ℕ) → List ℕ
+noted_after room noted link = cond (is_new_link room noted link) (noted ++ link ∷ []) noted

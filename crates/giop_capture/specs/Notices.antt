@@ -9,54 +9,54 @@ use Rattle.giop_capture.specs.declared.notices.Notice.TheVariants.{NoRoom, Tls, 
 use Rattle.giop_capture.specs.declared.notices.Seen.{Seen}
 
 -- a notice that is given once: when its cause has been seen now and had not been seen before
-abbrev pub once : Notice → Bool → Bool → List Notice
-once notice before after = cond (after && not before) (notice ∷ []) []
+abbrev pub notice_if_new : (notice : Notice) (before after : Bool) → List Notice
+notice_if_new notice before after = cond (after && not before) (notice ∷ []) []
 
 -- whether a stream closes because its connection makes room for another one
-abbrev pub is_room : CloseCause → Bool
-is_room Room = true
-is_room _ = false
+abbrev pub is_for_room : CloseCause → Bool
+is_for_room Room = true
+is_for_room _ = false
 
 abbrev pub makes_room : Event → Bool
-makes_room (Closes flow cause) = is_room cause
+makes_room (Closes flow cause) = is_for_room cause
 makes_room _ = false
 
 -- whether octets begin as a record of TLS does, by the type of its content and by its version (RFC
 -- 8446, 5.1)
-abbrev pub is_tls : List ℕ → Bool
-is_tls xs =
-    nat_le 3 (length xs) && nat_le 20 (get_or xs 0 0) && nat_le (get_or xs 0 0) 23
-    && nat_eq (get_or xs 1 0) 3 && nat_le (get_or xs 2 0) 4
+abbrev pub begins_as_tls : (octets : List ℕ) → Bool
+begins_as_tls octets =
+    nat_le 3 (length octets) && nat_le 20 (get_or octets 0 0) && nat_le (get_or octets 0 0) 23
+    && nat_eq (get_or octets 1 0) 3 && nat_le (get_or octets 2 0) 4
 
 -- whether octets begin as a message of ZIOP does (CORBA, Compression)
-abbrev pub is_ziop : List ℕ → Bool
-is_ziop xs =
-    nat_le 4 (length xs) && nat_eq (get_or xs 0 0) 90 && nat_eq (get_or xs 1 0) 73
-    && nat_eq (get_or xs 2 0) 79 && nat_eq (get_or xs 3 0) 80
+abbrev pub begins_as_ziop : (octets : List ℕ) → Bool
+begins_as_ziop octets =
+    nat_le 4 (length octets) && nat_eq (get_or octets 0 0) 90 && nat_eq (get_or octets 1 0) 73
+    && nat_eq (get_or octets 2 0) 79 && nat_eq (get_or octets 3 0) 80
 
 -- whether an event is a payload in which no stream begins, and `is` holds of its octets
-abbrev pub passes_by : (List ℕ → Bool) → Event → Bool
+abbrev pub passes_by : (is : List ℕ → Bool) (event : Event) → Bool
 passes_by is (OfCapture (Passes octets)) = is octets
 passes_by is _ = false
 
 -- what these events have shown that needs a notice
-abbrev pub seen : List Event → Seen
+abbrev pub seen : (events : List Event) → Seen
 seen events = record {
   room = list_any makes_room events;
-  tls = list_any (passes_by is_tls) events;
-  ziop = list_any (passes_by is_ziop) events;
+  tls = list_any (passes_by begins_as_tls) events;
+  ziop = list_any (passes_by begins_as_ziop) events;
 }
 
 -- what was seen, after one more event
-abbrev pub seen_after : Seen → Event → Seen
+abbrev pub seen_after : (before : Seen) (event : Event) → Seen
 seen_after s e = record {
   room = s.room || makes_room e;
-  tls = s.tls || passes_by is_tls e;
-  ziop = s.ziop || passes_by is_ziop e;
+  tls = s.tls || passes_by begins_as_tls e;
+  ziop = s.ziop || passes_by begins_as_ziop e;
 }
 
 -- the notices of what has been seen now and had not been seen before
-abbrev pub new_notices : Seen → Seen → List Notice
+abbrev pub new_notices : (before after : Seen) → List Notice
 new_notices before after =
-    (once NoRoom before.room after.room ++ once Tls before.tls after.tls)
-    ++ once Ziop before.ziop after.ziop
+    (notice_if_new NoRoom before.room after.room ++ notice_if_new Tls before.tls after.tls)
+    ++ notice_if_new Ziop before.ziop after.ziop

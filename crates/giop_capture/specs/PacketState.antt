@@ -4,16 +4,16 @@ use Rattle.tcp_flow.specs.Flow.{Event, Reader}
 use Rattle.tcp_connections.specs.declared.connections.Connections.{Connections}
 use Rattle.tcp_connections.specs.Connections.{State}
 use Rattle.tcp_connections.specs.State.{IsState}
-use Rattle.giop_capture.specs.Packets.{Taken}
-use Rattle.giop_capture.specs.Arrivals.{after_packets, links_told, notices_told}
+use Rattle.giop_capture.specs.Packets.{PacketView}
+use Rattle.giop_capture.specs.Arrivals.{after_packets, links_noticed, notices_due}
 use Rattle.giop_capture.specs.declared.notices.Notice.{Notice}
 
 -- From this start on, the connections have the state that these packets lead to, and the notices
 -- that are due of them were given.
 pub record HasRead (O : List Event → Type 0) (Told : List Notice → Type 0) (F : Reader)
     (c : Connections) (live links : List ℕ)
-    (start : State) (packets : List Taken) : Type 0 where
+    (start : State) (packets : List PacketView) : Type 0 where
   pub state : IsState O live c (after_packets F start packets)
   pub few : c.segments ≤ length packets
-  pub all : links ≡ links_told packets
-  pub told : Told (notices_told F start packets)
+  pub all : links ≡ links_noticed packets
+  pub told : Told (notices_due F start packets)

@@ -6,102 +6,112 @@ use Rattle.capture_file.specs.declared.part.PacketInfo.{PacketInfo}
 use Rattle.capture_file.specs.declared.progress.Packet.{Packet}
 use Rattle.capture_file.specs.Reading.{PacketRecord, packets, fault}
 use Rattle.capture_file.specs.CaptureState.{Reads}
-use Rattle.giop_print.specs.Output.{counted}
+use Rattle.giop_print.specs.Output.{saturating_next}
 use Rattle.giop_run.specs.SourceLog.{SourceLog}
-use Rattle.giop_run.specs.Running.{IsEnded}
+use Rattle.giop_run.specs.Running.{ReadFoundEnd}
 use Rattle.giop_run.specs.declared.fault.RunFault.{RunFault}
 use Rattle.giop_run.specs.declared.fault.RunFault.TheVariants as faults
 
 -- a packet as a listener gets it: its link type and time, and its octets
-pub record Taken : Type 0 where
+pub record PacketView : Type 0 where
   pub info : PacketInfo
   pub octets : List ℕ
 
-abbrev pub packet_view : Packet → Taken
+abbrev pub packet_view : Packet → PacketView
 packet_view p = record { info = record { link = p.link; time = p.time }; octets = p.octets.now }
 
-abbrev pub taken : PacketRecord → Taken
-taken p = record { info = p.info; octets = p.octets }
+abbrev pub view_of_record : PacketRecord → PacketView
+view_of_record p = record { info = p.info; octets = p.octets }
 
 -- the packets of a capture, as a listener gets them
-abbrev pub taken_of : List ℕ → List Taken
-taken_of p = map taken (packets p)
+abbrev pub capture_packets : (capture : List ℕ) → List PacketView
+capture_packets capture = map view_of_record (packets capture)
 
 -- from some start on, the listener has taken all packets of what the capture has read
-abbrev pub KeepsUp : {Self Start : Type 0} → (Self → Start → List Taken → Type 0) → Self → Capture →
-    Type 0
-KeepsUp {Start = Start} taken to c =
-    (start : Start) × (p : List ℕ) × Reads c p × taken to start (taken_of p)
+abbrev pub HasTakenAllRead : {Self Start : Type 0} (taken : Self → Start → List PacketView → Type 0)
+    (listener : Self) (c : Capture) → Type 0
+HasTakenAllRead {Start = Start} taken listener c =
+    (start : Start) × (p : List ℕ) × Reads c p × taken listener start (capture_packets p)
 
 -- Of the octets that came after p, those of `read` were read, and the packets that they complete
 -- were given to the listener. Those of `rest` weren't looked at.
-pub record HandedOn (HasTaken : List Taken → Type 0) (c : Capture) (p octets read rest : List ℕ) :
+pub record HasGivenPackets (HasTaken : List PacketView → Type 0) (c : Capture)
+    (capture_before octets read rest : List ℕ) :
     Type 0 where
   pub parts : octets ≡ read ++ rest
-  pub reads : Reads c (p ++ read)
-  pub taken : HasTaken (taken_of (p ++ read))
+  pub reads : Reads c (capture_before ++ read)
+  pub taken : HasTaken (capture_packets (capture_before ++ read))
 
 -- All octets were read, or, if the result is false, those up to a fault of the capture.
-abbrev pub HandedWhole : Bool → (List Taken → Type 0) → Capture → List ℕ → List ℕ → Type 0
-HandedWhole true HasTaken c p octets = HandedOn HasTaken c p octets octets []
-HandedWhole false HasTaken c p octets =
-    (read rest : List ℕ) × HandedOn HasTaken c p octets read rest × IsSome (fault (p ++ read))
+abbrev pub HasGivenUpToFault : (goes_on : Bool) (HasTaken : List PacketView → Type 0) (c : Capture)
+    (capture octets : List ℕ) → Type 0
+HasGivenUpToFault true HasTaken c capture octets = HasGivenPackets HasTaken c capture octets octets
+    []
+HasGivenUpToFault false HasTaken c capture octets =
+    (read rest : List ℕ) × HasGivenPackets HasTaken c capture octets read rest × IsSome
+    (fault (capture ++ read))
 
 -- ---- What a run did with a source, which gave the octets s.
 
 -- all that the source gave was read after p, and its packets were given to the listener; no read
 -- failed, and none was at the end
-pub record ReadAll (HasTaken : List Taken → Type 0) (c : Capture) (p s : List ℕ)
+pub record ReadAll (HasTaken : List PacketView → Type 0) (c : Capture)
+    (capture_before given_octets : List ℕ)
     (before after : SourceLog) : Type 0 where
-  pub given : Consumes before.left after.left s
+  pub given : Consumes before.left after.left given_octets
   pub failures : after.failures ≡ before.failures
   pub ends : after.ends ≡ before.ends
-  pub handed : HandedOn HasTaken c p s s []
+  pub handed : HasGivenPackets HasTaken c capture_before given_octets given_octets []
 
 -- a read failed, and there was no read after it; the packets of all that was read were given to the
 -- listener
-pub record ReadStopped (HasTaken : List Taken → Type 0) (c : Capture) (p s : List ℕ)
+pub record ReadStopped (HasTaken : List PacketView → Type 0) (c : Capture)
+    (capture_before given_octets : List ℕ)
     (before after : SourceLog) : Type 0 where
-  pub given : Consumes before.left after.left s
-  pub failures : after.failures ≡ counted before.failures
-  pub handed : HandedOn HasTaken c p s s []
+  pub given : Consumes before.left after.left given_octets
+  pub failures : after.failures ≡ saturating_next before.failures
+  pub handed : HasGivenPackets HasTaken c capture_before given_octets given_octets []
 
 -- The source came to its end, or the capture to a fault, after which nothing was read. No read
 -- failed.
-pub record ReadToEnd (HasTaken : List Taken → Type 0) (c : Capture) (p s : List ℕ)
+pub record ReadToEnd (HasTaken : List PacketView → Type 0) (c : Capture)
+    (capture_before given_octets : List ℕ)
     (before after : SourceLog) : Type 0 where
-  pub given : Consumes before.left after.left s
+  pub given : Consumes before.left after.left given_octets
   pub failures : after.failures ≡ before.failures
   pub read : List ℕ
   pub rest : List ℕ
-  pub handed : HandedOn HasTaken c p s read rest
-  pub over : (IsEnded before after × (rest ≡ [])) ⊎ IsSome (fault (p ++ read))
+  pub handed : HasGivenPackets HasTaken c capture_before given_octets read rest
+  pub over : (ReadFoundEnd before after × (rest ≡ [])) ⊎ IsSome (fault (capture_before ++ read))
 
 -- the listener failed, and no read did
-pub record NotTaken (s : List ℕ) (before after : SourceLog) : Type 0 where
-  pub given : Consumes before.left after.left s
+pub record NotTaken (given_octets : List ℕ) (before after : SourceLog) : Type 0 where
+  pub given : Consumes before.left after.left given_octets
   pub failures : after.failures ≡ before.failures
 
 -- What a run did, by its result. If the listener failed, nothing is said of what it has taken. If
 -- the reads were used up, each of them gave an octet.
-abbrev pub Ran : Result (Unit {0}) RunFault → (List Taken → Type 0) → Capture → List ℕ → SourceLog →
-    SourceLog → Type 0
-Ran (Ok _) HasTaken c s before after = ReadToEnd HasTaken c [] s before after
-Ran (Err faults.Read) HasTaken c s before after = ReadStopped HasTaken c [] s before after
-Ran (Err faults.Turns) HasTaken c s before after =
-    ReadAll HasTaken c [] s before after × (2 ^ 40 ≤ length s)
-Ran (Err faults.Out) HasTaken c s before after = NotTaken s before after
-Ran (Err faults.Failed) HasTaken c s before after = ⊥
+abbrev pub Ran : (result : Result (Unit {0}) RunFault) (HasTaken : List PacketView → Type 0)
+    (c : Capture) (octets : List ℕ) (before after : SourceLog) → Type 0
+Ran (Ok _) HasTaken c octets before after = ReadToEnd HasTaken c [] octets before after
+Ran (Err faults.Read) HasTaken c octets before after = ReadStopped HasTaken c [] octets before after
+Ran (Err faults.Turns) HasTaken c octets before after =
+    ReadAll HasTaken c [] octets before after × (2 ^ 40 ≤ length octets)
+Ran (Err faults.Out) HasTaken c octets before after = NotTaken octets before after
+Ran (Err faults.Failed) HasTaken c octets before after = ⊥
 
 -- ---- One read of a run (steps).
 
--- what a read and its packets did after p; the result is true if the reading goes on
-abbrev pub HasReadOnce : Result Bool RunFault → (List Taken → Type 0) → Capture → List ℕ → List ℕ →
-    SourceLog → SourceLog → Type 0
-HasReadOnce (Ok true) HasTaken c p s before after =
-    ReadAll HasTaken c p s before after × (0 < length s)
-HasReadOnce (Ok false) HasTaken c p s before after = ReadToEnd HasTaken c p s before after
-HasReadOnce (Err faults.Read) HasTaken c p s before after = ReadStopped HasTaken c p s before after
-HasReadOnce (Err faults.Turns) HasTaken c p s before after = ⊥
-HasReadOnce (Err faults.Out) HasTaken c p s before after = NotTaken s before after
-HasReadOnce (Err faults.Failed) HasTaken c p s before after = ⊥
+-- what a read and its packets did after these octets of the capture; the result is true if the
+-- reading goes on
+abbrev pub HasReadOnce : (result : Result Bool RunFault) (HasTaken : List PacketView → Type 0)
+    (c : Capture) (capture octets : List ℕ) (before after : SourceLog) → Type 0
+HasReadOnce (Ok true) HasTaken c capture octets before after =
+    ReadAll HasTaken c capture octets before after × (0 < length octets)
+HasReadOnce (Ok false) HasTaken c capture octets before after =
+    ReadToEnd HasTaken c capture octets before after
+HasReadOnce (Err faults.Read) HasTaken c capture octets before after =
+    ReadStopped HasTaken c capture octets before after
+HasReadOnce (Err faults.Turns) HasTaken c capture octets before after = ⊥
+HasReadOnce (Err faults.Out) HasTaken c capture octets before after = NotTaken octets before after
+HasReadOnce (Err faults.Failed) HasTaken c capture octets before after = ⊥

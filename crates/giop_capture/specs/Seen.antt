@@ -7,8 +7,8 @@ use Rattle.giop_capture.specs.declared.failure.DumpError.{DumpError}
 use Rattle.giop_capture.specs.declared.failure.DumpError.TheVariants as failures
 
 -- If a read failed, or there were too many reads, all that was put can be seen.
-abbrev pub SeenWhereReadingFailed : {O : Type 0} → (O → OutLog) → (O → List ℕ) → DumpError O →
-    Type 0
+abbrev pub SeenWhereReadingFailed : {O : Type 0} (log : O → OutLog) (kept : O → List ℕ)
+    (dump_error : DumpError O) → Type 0
 SeenWhereReadingFailed log kept (failures.Step fault) = Unit {0}
 SeenWhereReadingFailed log kept (failures.Run runs.Read out) = IsSeen log kept (log out).written
 SeenWhereReadingFailed log kept (failures.Run runs.Turns out) = IsSeen log kept (log out).written

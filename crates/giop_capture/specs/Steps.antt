@@ -11,34 +11,35 @@ use Rattle.giop_run.specs.declared.fault.RunFault.TheVariants as runs
 use Rattle.giop_run.specs.declared.fault.ProgramError.{ProgramError}
 use Rattle.giop_run.specs.declared.fault.ProgramError.TheVariants as faults
 use Rattle.giop_run.specs.Console.{fault_status}
-use Rattle.giop_run.specs.Files.{Folder, Refusals, NoStream, stream_of}
+use Rattle.giop_run.specs.Files.{KnownFiles, FileErrors, NoStream, stream_octets}
 use Rattle.giop_run.specs.Joint.{CataloguesOf, NoCatalogues}
 use Rattle.giop_capture.specs.declared.arguments.Arguments.{Arguments}
 use Rattle.giop_capture.specs.declared.ending.Ending.{Ending}
 use Rattle.giop_capture.specs.declared.ending.Ending.TheVariants as endings
-use Rattle.giop_capture.specs.Packets.{taken_of}
+use Rattle.giop_capture.specs.Packets.{capture_packets}
 use Rattle.giop_capture.specs.Arrivals.{after_packets, capture_ended}
 use Rattle.giop_capture.specs.CaptureRun.{ending_of}
 use Rattle.giop_capture.specs.Text.{HasText, HasTextSoFar, HasStreams}
 
 -- the program's status: 0; 1 if a fault was counted, a stream was cut, or the file is no capture;
 -- or the status of the failure
-abbrev pub capture_status : Result Ending ProgramError → ℕ
+abbrev pub capture_status : (result : Result Ending ProgramError) → ℕ
 capture_status (Ok endings.Whole) = 0
 capture_status (Ok endings.Faulty) = 1
 capture_status (Ok (endings.NoCapture file)) = 1
 capture_status (Err fault) = fault_status fault
 
 -- the names of the signature files that the arguments give
-abbrev pub signatures_of : Arguments → List (List ℕ)
+abbrev pub signatures_of : (asked : Arguments) → List (List ℕ)
 signatures_of asked = map (λ name. name.now) asked.signatures.items
 
-abbrev pub capture_of : Arguments → Option (List ℕ)
+abbrev pub capture_of : (asked : Arguments) → Option (List ℕ)
 capture_of asked = option_map (λ name. name.now) asked.capture
 
 -- What is known of a dump before it begins is true: its setup is the one that the arguments ask
 -- for, with these types, and this was written before.
-abbrev pub BeginsAs : (Setup → List ℕ → Type 0) → Arguments → Table → Option (List ℕ) → Type 0
+abbrev pub BeginsAs : (begins : Setup → List ℕ → Type 0) (asked : Arguments) (table : Table)
+    (before : Option (List ℕ)) → Type 0
 BeginsAs begins asked table before =
     (S : Setup) (written : List ℕ) → begins S written
     → (S ≡ setup table asked.messages asked.calls asked.connections asked.first_stream)
@@ -81,13 +82,13 @@ pub record ReadInPart (begins : Setup → List ℕ → Type 0) (asked : Argument
   pub text : (S : Setup) (written : List ℕ) → begins S written
       → HasTextSoFar S written
       (after_packets stream_reader (none_known asked.ports.items asked.pool asked.connections [])
-      (taken_of octets)).events
+      (capture_packets octets)).events
       put
 
 -- A read failed; or the reads were used up, and each of them gave an octet; or the writing of the
 -- lines failed: a put or a flush of the out.
-abbrev pub RunFailed : (Setup → List ℕ → Type 0) → Arguments → Option (List ℕ) → ProgramError
-    → Option OutLog → Type 0
+abbrev pub RunFailed : (begins : Setup → List ℕ → Type 0) (asked : Arguments)
+    (source : Option (List ℕ)) (fault : ProgramError) (log : Option OutLog) → Type 0
 RunFailed begins asked source (faults.Run runs.Read) (Some log) =
     ReadInPart begins asked source log.written
 RunFailed begins asked source (faults.Run runs.Turns) (Some log) =
@@ -96,8 +97,9 @@ RunFailed begins asked source (faults.Run runs.Out) (Some log) = 0 < log.failure
 RunFailed begins asked source _ _ = ⊥
 
 -- why a capture wasn't dumped: the first step that failed, or the run, with the log of its out
-abbrev pub NotDumped : Folder → Refusals → Option (List ℕ) → (Setup → List ℕ → Type 0) → Arguments
-    → ProgramError → Option OutLog → Type 0
+abbrev pub NotDumped : (held : KnownFiles) (refuses : FileErrors) (source : Option (List ℕ))
+    (begins : Setup → List ℕ → Type 0) (asked : Arguments) (fault : ProgramError)
+    (log : Option OutLog) → Type 0
 NotDumped held refuses source begins asked fault log =
     NoCatalogues held refuses (signatures_of asked) fault
     ⊎ ((C : Table) × CataloguesOf held (signatures_of asked) C
@@ -106,30 +108,32 @@ NotDumped held refuses source begins asked fault log =
 -- ---- The program's status.
 
 -- nothing is known of a dump before it begins
-abbrev pub unknown : Setup → List ℕ → Type 0
-unknown S written = ⊥
+abbrev pub nothing_known : (S : Setup) (written : List ℕ) → Type 0
+nothing_known S written = ⊥
 
 -- What the steps did, if nothing is known of files, of standard input, and of what was written
 -- before.
-abbrev pub Came : Arguments → Result Ending ProgramError → Type 0
-Came asked (Ok ending) =
+abbrev pub HasTakenSteps : (asked : Arguments) (result : Result Ending ProgramError) → Type 0
+HasTakenSteps asked (Ok ending) =
     (put : Option (List ℕ))
-    × CaptureDumped ending unknown asked (stream_of (λ name. None) None (capture_of asked)) put
-Came asked (Err fault) =
+    × CaptureDumped ending nothing_known asked (stream_octets (λ name. None) None
+    (capture_of asked)) put
+HasTakenSteps asked (Err fault) =
     (log : Option OutLog)
     × NotDumped (λ name. None) (λ name kind. Unit {0})
-    (stream_of (λ name. None) None (capture_of asked)) unknown asked fault log
+    (stream_octets (λ name. None) None (capture_of asked)) nothing_known asked fault log
 
 -- the status is the one for what the steps did
-abbrev pub HasStatus : Arguments → ℕ → Type 0
+abbrev pub HasStatus : (asked : Arguments) (status : ℕ) → Type 0
 HasStatus asked status =
-    (ended : Result Ending ProgramError) × Came asked ended × (status ≡ capture_status ended)
+    (ended : Result Ending ProgramError) × HasTakenSteps asked ended
+    × (status ≡ capture_status ended)
 
 -- the status is one for words that ask for no dump: 0 for help or a version, 2 for words that can't
 -- be read, 4 for a text that can't be printed, 5 for no memory
-abbrev pub IsOfWords : ℕ → Type 0
-IsOfWords status = (status ≡ 0) ⊎ (status ≡ 2) ⊎ (status ≡ 4) ⊎ (status ≡ 5)
+abbrev pub IsStatusWithoutDump : (status : ℕ) → Type 0
+IsStatusWithoutDump status = (status ≡ 0) ⊎ (status ≡ 2) ⊎ (status ≡ 4) ⊎ (status ≡ 5)
 
 -- the status is one that the program may have
-abbrev pub IsStatus : ℕ → Type 0
-IsStatus status = IsOfWords status ⊎ ((asked : Arguments) × HasStatus asked status)
+abbrev pub IsStatus : (status : ℕ) → Type 0
+IsStatus status = IsStatusWithoutDump status ⊎ ((asked : Arguments) × HasStatus asked status)

@@ -7,7 +7,7 @@ use arrayvec::ArrayVec;
 use clap::builder::ValueParser;
 use clap::error::ErrorKind;
 use clap::{Arg, ArgAction, ArgMatches, Command, Error};
-use giop_run::marked;
+use giop_run::words_with_stand_ins;
 use giop_stream::MOST_OPEN;
 use std::alloc::{AllocError, Global};
 
@@ -190,7 +190,7 @@ fn signatures_of<'a>(matches: &ArgMatches<'a>) -> Option<ArrayVec<&'a str, 16>> 
 }
 
 /// The number that an argument gives, or the default if there is no argument. `clap` has checked the range.
-fn number_of(word: Option<u32>, range: (u32, u32), default: u32) -> u32
+fn number_or_default(word: Option<u32>, range: (u32, u32), default: u32) -> u32
     requires order { range.0 ≤ range.1 }
     requires within { (range.0 ≤ default) × (default ≤ range.1) }
     ensures range { (range.0 ≤ result) × (result ≤ range.1) }
@@ -204,7 +204,7 @@ fn number_of(word: Option<u32>, range: (u32, u32), default: u32) -> u32
 }
 
 /// The number of the first stream that an argument gives, or 1 if there is no argument. `clap` has checked the range.
-fn first_of(word: Option<u64>) -> u64
+fn first_stream_of(word: Option<u64>) -> u64
     ensures range { (1 ≤ result) × (result ≤ 10 ^ 18) }
     ensures word { (n : ℕ) → word ≡ Some n → 1 ≤ n → n ≤ 10 ^ 18 → result ≡ n }
     ensures missing { word ≡ None → result ≡ 1 }
@@ -214,7 +214,7 @@ fn first_of(word: Option<u64>) -> u64
 
 /// The file of the capture, by its argument. If there is no argument, or it is `-`, there is no file: the capture is
 /// standard input.
-fn capture_of<'a>(word: Option<&'a str>) -> Option<&'a str>
+fn capture_name<'a>(word: Option<&'a str>) -> Option<&'a str>
     ensures standard { option_map (λ w. w.now) word.entry ≡ Some (codes "-") → result ≡ None }
     ensures file { option_map (λ w. w.now) word.entry ≢ Some (codes "-") → result ≡ word.entry }
 {
@@ -229,7 +229,7 @@ impl<'a> Arguments<'a> {
     /// also the answer to `--help` and `--version`, with status 0.
     pub fn read(alloc: Global, words: &'a [String]) -> Result<Arguments<'a>, Error> {
         // If something is wrong with the words, the error's text is made of the marked words.
-        command(alloc)?.try_get_matches_from(marked(alloc, words)?.as_slice())?;
+        command(alloc)?.try_get_matches_from(words_with_stand_ins(alloc, words)?.as_slice())?;
         let mut command = command(alloc)?;
         let matches = command.try_get_matches_from_mut(words)?;
         let Some(ports) = ports_of(&matches) else {
@@ -241,20 +241,20 @@ impl<'a> Arguments<'a> {
         Ok(Arguments {
             signatures,
             ports,
-            connections: number_of(
+            connections: number_or_default(
                 matches.get_one("connections"),
                 (1, MOST_KNOWN),
                 DEFAULT_CONNECTIONS,
             ),
-            messages: number_of(matches.get_one("open"), (1, MOST_OPEN), DEFAULT_OPEN),
-            calls: number_of(matches.get_one("calls"), (1, MOST_KNOWN), DEFAULT_CALLS),
-            pool: number_of(
+            messages: number_or_default(matches.get_one("open"), (1, MOST_OPEN), DEFAULT_OPEN),
+            calls: number_or_default(matches.get_one("calls"), (1, MOST_KNOWN), DEFAULT_CALLS),
+            pool: number_or_default(
                 matches.get_one("pool"),
                 (LEAST_POOL, MOST_POOL),
                 DEFAULT_POOL,
             ),
-            first_stream: first_of(matches.get_one("first-stream")),
-            capture: capture_of(matches.get_str("CAPTURE")),
+            first_stream: first_stream_of(matches.get_one("first-stream")),
+            capture: capture_name(matches.get_str("CAPTURE")),
         })
     }
 }

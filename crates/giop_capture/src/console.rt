@@ -11,8 +11,8 @@ use crate::steps::perform_capture;
 use crate::teller::Unknown;
 use crate::{Arguments, Ending, Notice, Notices};
 use giop_run::{
-    Lines, ProgramError, Reason, Retrying, RunFault, ShownName, Watched, explained, failed,
-    refused, words,
+    Lines, ProgramError, Reason, Retrying, RunFault, ShownName, Watched, command_line_words,
+    print_clap_error, print_fault, print_fault_explained,
 };
 use std::fs;
 use std::io::Write;
@@ -52,12 +52,12 @@ pub fn program(rt: &HostRuntime) -> u8
     ensures most { result ≤ 5 }
     ensures status { IsStatus result }
 {
-    let words = match words(rt) {
+    let words = match command_line_words(rt) {
         Ok(words) => words,
-        Err(fault) => return failed(rt, PROGRAM, &fault),
+        Err(fault) => return print_fault(rt, PROGRAM, &fault),
     };
     match Arguments::read(rt.alloc(), words.as_slice()) {
-        Err(error) => refused(rt, PROGRAM, &error),
+        Err(error) => print_clap_error(rt, PROGRAM, &error),
         Ok(asked) => print_capture(rt, asked),
     }
 }
@@ -74,7 +74,7 @@ fn print_capture(rt: &HostRuntime, asked: Arguments) -> u8
     };
     let stdout = Watched::new(Retrying::new(rt.stdout()));
     let Ok(lines) = Lines::new(rt.alloc(), stdout) else {
-        return failed(rt, PROGRAM, &ProgramError::OutOfMemory);
+        return print_fault(rt, PROGRAM, &ProgramError::OutOfMemory);
     };
     match perform_capture::<_, _, _, Unknown>(rt, asked, lines, console) {
         Ok((ending, _)) => report_ending(rt, name, ending),
@@ -108,8 +108,10 @@ fn report_failure<W: Write + Drop>(
     let fault = failure.fault();
     match failure {
         DumpError::Run(RunFault::Out, lines) if lines.writer().reader_is_gone => fault.status(),
-        DumpError::Run(RunFault::Read, _) => explained(rt, PROGRAM, &read_fault(rt, name)),
-        _ => explained(rt, PROGRAM, &fault),
+        DumpError::Run(RunFault::Read, _) => {
+            print_fault_explained(rt, PROGRAM, &read_fault(rt, name))
+        }
+        _ => print_fault_explained(rt, PROGRAM, &fault),
     }
 }
 

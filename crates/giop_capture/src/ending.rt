@@ -9,7 +9,7 @@ ghost use Rattle.tcp_connections.specs.State.{HasState, IsState, IsAt};
 ghost use Rattle.giop_capture.specs.Packets.{Ran};
 ghost use Rattle.giop_capture.specs.Arrivals.{with_fault};
 ghost use Rattle.giop_capture.specs.PacketState.{HasRead};
-ghost use Rattle.giop_capture.specs.CaptureRun.{CaptureRan, Dumped, ending_of};
+ghost use Rattle.giop_capture.specs.CaptureRun.{CaptureRan, DumpedWholeCapture, ending_of};
 
 use crate::listening::CaptureListener;
 use crate::notices::Notices;
@@ -46,7 +46,7 @@ pub fn read_capture<S: Source, L: CaptureListener + Drop, N: Notices + Drop>(
     ensures reads { (S.log source.new).reads ≤ (S.log source.old).reads + 2 ^ 40 }
 {
     read_packets(source, capture, reader)?;
-    match end(capture, reader) {
+    match end_capture(capture, reader) {
         Ok(fault) => Ok(fault),
         Err(_) => Err(RunFault::Out),
     }
@@ -76,7 +76,7 @@ pub fn dump_capture<S: Source, L: CaptureListener + Drop, N: Notices + Drop>(
     ensures dumped { (w : State) → HasRead (L.observed reader.old.streams.listener)
         (N.told reader.old.notices) L.reader reader.old.connections
         reader.old.streams.live.items reader.old.unread.noted.items w []
-        → IfOk result (λ ending. Dumped ending L.observed L.finished L.faulty L.reader
+        → IfOk result (λ ending. DumpedWholeCapture ending L.observed L.finished L.faulty L.reader
         (N.told reader.new.notices) capture.new w (S.log source.old) (S.log source.new)
         reader.new.streams.listener) }
     // If a read failed, or the reads were used up, the listener has taken the packets that came until then, and the capture
@@ -141,7 +141,7 @@ fn ending_of(fault: Option<CaptureFault>, is_faulty: bool) -> Ending
 }
 
 /// Ends a capture: tells the listener of its fault, if it has one, and then closes its streams. Returns the fault.
-fn end<L: CaptureListener + Drop, N: Notices + Drop>(
+fn end_capture<L: CaptureListener + Drop, N: Notices + Drop>(
     capture: &Capture,
     reader: &mut PacketReader<L, N>,
 ) -> Result<Option<CaptureFault>, OutFault>

@@ -28,7 +28,7 @@ pub use laws::each_stream_of_a_capture_is_dumped;
 pub use links::UnreadLinks;
 pub use listening::{CaptureListener, PacketListener};
 pub use memory::packet_reader;
-pub use notices::{Notice, Notices, Seen, is_tls, is_ziop};
+pub use notices::{Notice, Notices, Seen, begins_as_tls, begins_as_ziop};
 pub use packets::PacketReader;
 pub use reading::read_packets;
 pub use steps::perform_capture;

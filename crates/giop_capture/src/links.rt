@@ -1,7 +1,7 @@
 //! The link types in a capture whose packets aren't read.
 
 ghost use Rattle.std.specs.Prelude.{◌≡◌, []};
-ghost use Rattle.giop_capture.specs.Links.{is_new, noted_after};
+ghost use Rattle.giop_capture.specs.Links.{is_new_link, noted_after};
 
 use arrayvec::ArrayVec;
 
@@ -23,7 +23,7 @@ impl UnreadLinks {
 
     /// Notes a link type if it wasn't noted before and there is room for one more. Returns whether it was noted now.
     pub fn note_new(&mut self, link: u16) -> bool
-        ensures new { result ≡ is_new 16 self.old.noted.items link }
+        ensures new { result ≡ is_new_link 16 self.old.noted.items link }
         ensures noted { self.new.noted.items ≡ noted_after 16 self.old.noted.items link }
     {
         if self.noted.contains(&link) {

@@ -9,14 +9,14 @@ use tcp_flow::{Listener, ListenerError};
 
 /// Something that takes the packets of a capture.
 pub trait PacketListener {
-    ghost use Rattle.giop_capture.specs.Packets.{Taken, packet_view};
+    ghost use Rattle.giop_capture.specs.Packets.{PacketView, packet_view};
 
     /// What the listener began with.
     ghost Start: { Type 0 };
 
     /// From this start on, the listener has taken these packets, in this order. It is a relation, so that a listener may
     /// forget packets.
-    ghost taken: { Self → Start → List Taken → Type 0 };
+    ghost taken: { Self → Start → List PacketView → Type 0 };
 
     /// The listener has failed. From then on nothing is promised.
     ghost failed: { Self → Type 0 };
@@ -25,17 +25,17 @@ pub trait PacketListener {
     ghost flushed: { Self → Type 0 };
 
     /// Takes the next packet. It has at most 262,144 octets, and fewer than 2^63 packets were taken before.
-    fn packet(&mut self, packet: Packet<'_>) -> Result<(), OutFault>
-        requires taken { (start : Start) × (packets : List Taken)
+    fn on_packet(&mut self, packet: Packet<'_>) -> Result<(), OutFault>
+        requires taken { (start : Start) × (packets : List PacketView)
             × taken self.old start packets × (length packets < 2 ^ 63) }
         requires whole { length packet.octets.now ≤ 262_144 }
-        ensures does { (start : Start) (packets : List Taken) → taken self.old start packets
+        ensures does { (start : Start) (packets : List PacketView) → taken self.old start packets
             → OnOk result (taken self.new start (packets ++ packet_view packet.entry ∷ [])) }
         ensures cause { OnErr result (failed self.new) };
 
     /// Makes sure that what was written can be seen, because the program is about to wait for more octets of the capture.
     fn flush(&mut self) -> Result<(), OutFault>
-        ensures does { (start : Start) (packets : List Taken) → taken self.old start packets
+        ensures does { (start : Start) (packets : List PacketView) → taken self.old start packets
             → OnOk result (taken self.new start packets) }
         ensures flushed { OnOk result (flushed self.new) }
         ensures cause { OnErr result (failed self.new) };

@@ -1,7 +1,7 @@
 //! The notices that are given of a capture, beside its lines.
 
 ghost use Rattle.std.specs.Prelude.{◌≡◌, Bool, List, [], ◌∷◌, ◌++◌};
-ghost use Rattle.giop_capture.specs.Notices.{once, new_notices, is_tls, is_ziop};
+ghost use Rattle.giop_capture.specs.Notices.{notice_if_new, new_notices, begins_as_tls, begins_as_ziop};
 ghost use Rattle.giop_capture.specs.declared.notices.Notice.{Notice};
 
 /// A notice beside the lines. If it can't be shown, it is lost.
@@ -41,15 +41,15 @@ pub trait Notices {
 }
 
 /// Whether octets begin as a record of TLS does, by the type of its content and by its version (RFC 8446, 5.1).
-pub fn is_tls(octets: &[u8]) -> bool
-    ensures { result ≡ is_tls octets.now }
+pub fn begins_as_tls(octets: &[u8]) -> bool
+    ensures { result ≡ begins_as_tls octets.now }
 {
     octets.len() >= 3 && 20 <= octets[0] && octets[0] <= 23 && octets[1] == 3 && octets[2] <= 4
 }
 
 /// Whether octets begin as a message of ZIOP does (CORBA, Compression).
-pub fn is_ziop(octets: &[u8]) -> bool
-    ensures { result ≡ is_ziop octets.now }
+pub fn begins_as_ziop(octets: &[u8]) -> bool
+    ensures { result ≡ begins_as_ziop octets.now }
 {
     octets.len() >= 4
         && octets[0] == b'Z'
@@ -71,7 +71,7 @@ pub fn tell_new<N: Notices>(before: Seen, after: Seen, notices: &mut N)
 /// Gives a notice if its cause has been seen now and had not been seen before.
 fn tell_once<N: Notices>(notice: Notice, before: bool, after: bool, notices: &mut N)
     ensures { (told : List Notice) → N.told notices.old told
-        → N.told notices.new (told ++ once notice before after) }
+        → N.told notices.new (told ++ notice_if_new notice before after) }
 {
     if after && !before {
         notices.tell(notice);

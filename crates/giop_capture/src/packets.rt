@@ -7,7 +7,7 @@ ghost use Rattle.capture_file.specs.FaultWords.{fault_word};
 ghost use Rattle.tcp_flow.specs.Flow.{Event, HasFault};
 ghost use Rattle.tcp_connections.specs.Connections.{State, with_capture_event, step, ended};
 ghost use Rattle.tcp_connections.specs.State.{IsState, IsAt, HasState, Makes};
-ghost use Rattle.giop_capture.specs.Packets.{Taken};
+ghost use Rattle.giop_capture.specs.Packets.{PacketView};
 ghost use Rattle.giop_capture.specs.Arrivals.{link_notices, links_noted};
 ghost use Rattle.giop_capture.specs.declared.notices.Notice.{Notice};
 ghost use Rattle.giop_capture.specs.PacketState.{HasRead};
@@ -33,7 +33,7 @@ pub struct PacketReader<L: CaptureListener + Drop, N: Notices + Drop> {
 }
 
 /// The answer of a listener as the answer of an out: each has one way to fail.
-fn out_answer(answer: Result<(), ListenerError>) -> Result<(), OutFault>
+fn as_out_result(answer: Result<(), ListenerError>) -> Result<(), OutFault>
     ensures { result ≡ elim answer [ Ok value ↦ Ok value | Err fault ↦ Err (record {}) ] }
 {
     match answer {
@@ -80,7 +80,7 @@ impl<L: CaptureListener + Drop, N: Notices + Drop> PacketReader<L, N> {
         ensures notices { self.new.notices ≡ self.old.notices }
         ensures cause { OnErr result (L.failed self.new.streams.listener) }
     {
-        out_answer(self.streams.listener.on_fault(fault))
+        as_out_result(self.streams.listener.on_fault(fault))
     }
 
     /// Ends the capture: its streams close.
@@ -94,7 +94,7 @@ impl<L: CaptureListener + Drop, N: Notices + Drop> PacketReader<L, N> {
         ensures notices { self.new.notices ≡ self.old.notices }
         ensures cause { OnErr result (L.failed self.new.streams.listener) }
     {
-        out_answer(self.connections.end(&mut self.streams))
+        as_out_result(self.connections.end(&mut self.streams))
     }
 
     /// Lets the listener write what is still due, with the number of packets and octets of the capture. Returns whether the
@@ -136,20 +136,20 @@ impl<L: CaptureListener + Drop, N: Notices + Drop> PacketListener for PacketRead
 
     ghost flushed = { λ r. L.flushed r.streams.listener };
 
-    fn packet(&mut self, packet: Packet<'_>) -> Result<(), OutFault> {
-        self.connections.read(packet.time);
+    fn on_packet(&mut self, packet: Packet<'_>) -> Result<(), OutFault> {
+        self.connections.begin_packet(packet.time);
         note_link(&mut self.unread, &mut self.notices, packet.link);
         let Some(segment) = segment(packet.link, packet.octets) else {
             return Ok(());
         };
         let before = self.streams.listener.seen();
-        out_answer(self.connections.take(segment, &mut self.streams))?;
+        as_out_result(self.connections.take(segment, &mut self.streams))?;
         let after = self.streams.listener.seen();
         tell_new(before, after, &mut self.notices);
         Ok(())
     }
 
     fn flush(&mut self) -> Result<(), OutFault> {
-        out_answer(self.streams.listener.flush())
+        as_out_result(self.streams.listener.flush())
     }
 }

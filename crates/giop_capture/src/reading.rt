@@ -2,8 +2,8 @@
 
 ghost use Rattle.std.specs.Prelude.{◌≡◌, ◌≢◌, ◌⊎◌, ◌+◌, ◌<◌, ◌≤◌, ◌^◌, List, ℕ, [], ◌∷◌, ◌++◌, length, OnOk, OnErr, IfOk, IfErr, Err};
 ghost use Rattle.capture_file.specs.CaptureState.{Reads, octets_of};
-ghost use Rattle.giop_capture.specs.Packets.{Taken, taken_of, packet_view, KeepsUp, HandedWhole, HasReadOnce, Ran};
-ghost use Rattle.giop_print.specs.Output.{counted};
+ghost use Rattle.giop_capture.specs.Packets.{PacketView, capture_packets, packet_view, HasTakenAllRead, HasGivenUpToFault, HasReadOnce, Ran};
+ghost use Rattle.giop_print.specs.Output.{saturating_next};
 
 use crate::listening::PacketListener;
 use capture_file::{Capture, Progress};
@@ -18,16 +18,16 @@ const ROOM: usize = 16_384;
 
 /// Gives the listener the packets that these octets complete. Returns whether the reading goes on. It doesn't after a fault
 /// of the capture: no more octets of the capture are read then.
-fn hand_on<L: PacketListener>(
+fn give_packets<L: PacketListener>(
     capture: &mut Capture,
     octets: &[u8],
     to: &mut L,
 ) -> Result<bool, OutFault>
     requires room { octets_of capture.old + length octets.now < 2 ^ 63 }
-    requires taken { KeepsUp L.taken to.old capture.old }
+    requires taken { HasTakenAllRead L.taken to.old capture.old }
     ensures does { (start : L.Start) (p : List ℕ) → Reads capture.old p
-        → L.taken to.old start (taken_of p) → IfOk result (λ goes_on.
-        HandedWhole goes_on (L.taken to.new start) capture.new p octets.now) }
+        → L.taken to.old start (capture_packets p) → IfOk result (λ goes_on.
+        HasGivenUpToFault goes_on (L.taken to.new start) capture.new p octets.now) }
     ensures count { OnOk result
         (octets_of capture.new ≤ octets_of capture.old + length octets.now) }
     ensures cause { OnErr result (L.failed to.new) }
@@ -36,7 +36,7 @@ fn hand_on<L: PacketListener>(
     loop {
         match capture.take(rest) {
             (count, Progress::Packet) => {
-                to.packet(capture.packet(rest))?;
+                to.on_packet(capture.packet(rest))?;
                 rest = &rest[count..];
             }
             (_, Progress::More) => return Ok(true),
@@ -53,13 +53,13 @@ fn read_once<S: Source, L: PacketListener>(
     buffer: &mut [u8; ROOM],
 ) -> Result<bool, RunFault>
     requires room { octets_of capture.old < 2 ^ 62 }
-    requires taken { KeepsUp L.taken to.old capture.old }
+    requires taken { HasTakenAllRead L.taken to.old capture.old }
     ensures does { (start : L.Start) (p : List ℕ) → Reads capture.old p
-        → L.taken to.old start (taken_of p)
+        → L.taken to.old start (capture_packets p)
         → (s : List ℕ) × HasReadOnce result (L.taken to.new start) capture.new p s
         (S.log source.old) (S.log source.new) }
     ensures count { OnOk result (octets_of capture.new ≤ octets_of capture.old + 16_384) }
-    ensures reads { (S.log source.new).reads ≡ counted (S.log source.old).reads }
+    ensures reads { (S.log source.new).reads ≡ saturating_next (S.log source.old).reads }
     ensures cause { result ≡ Err RunFault.Out → L.failed to.new }
     ensures kept { result ≡ Err RunFault.Read → to.new ≡ to.old }
     ensures ends { result ≢ Err RunFault.Turns }
@@ -70,7 +70,7 @@ fn read_once<S: Source, L: PacketListener>(
     if given == 0 {
         return Ok(false);
     }
-    match hand_on(capture, &buffer[..given], to) {
+    match give_packets(capture, &buffer[..given], to) {
         Ok(goes_on) => Ok(goes_on),
         Err(_) => Err(RunFault::Out),
     }
@@ -78,7 +78,7 @@ fn read_once<S: Source, L: PacketListener>(
 
 /// Flushes the listener.
 fn flush<L: PacketListener>(to: &mut L) -> Result<(), RunFault>
-    ensures flushed { (start : L.Start) (packets : List Taken) → L.taken to.old start packets
+    ensures flushed { (start : L.Start) (packets : List PacketView) → L.taken to.old start packets
         → OnOk result (L.taken to.new start packets) }
     ensures seen { OnOk result (L.flushed to.new) }
     ensures cause { IfErr result (λ fault. (fault ≡ RunFault.Out) × L.failed to.new) }

@@ -3,14 +3,14 @@
 
 ghost use Rattle.std.specs.Prelude.{◌≡◌, ◌<◌, ◌⊎◌, List, ℕ, [], Some, IfOk, IfErr};
 ghost use Rattle.std.specs.Io.KnownBytes.{Keeps};
-ghost use Rattle.giop_stream.specs.EngineHolds.{AreOf};
+ghost use Rattle.giop_stream.specs.EngineHolds.{IsRequestTableOf};
 ghost use Rattle.tcp_connections.specs.Connections.{none_known};
 ghost use Rattle.giop_sig.specs.Table.{Table};
 ghost use Rattle.giop_conversation.specs.Captured.{Setup};
 ghost use Rattle.giop_conversation.specs.DumpWritten.{IsWritten};
 ghost use Rattle.giop_conversation.specs.Follows.{Follows};
 ghost use Rattle.giop_conversation.specs.Followed.{stream_reader};
-ghost use Rattle.giop_run.specs.Files.{NoStream, stream_of};
+ghost use Rattle.giop_run.specs.Files.{NoStream, stream_octets};
 ghost use Rattle.giop_run.specs.Joint.{CataloguesOf};
 ghost use Rattle.giop_capture.specs.Notices.{seen};
 ghost use Rattle.giop_capture.specs.PacketState.{HasRead};
@@ -42,11 +42,11 @@ pub fn perform_capture<
     requires begins { (C : Table) → CataloguesOf (R.held rt.now) (signatures_of asked) C
         → BeginsAs B.begins asked C (O.log out).written }
     ensures dumped { IfOk result (λ ended. CaptureDumped ended.0 B.begins asked.entry
-        (stream_of (R.held rt.now) (R.given rt.now) (capture_of asked.entry))
+        (stream_octets (R.held rt.now) (R.given rt.now) (capture_of asked.entry))
         (O.log ended.1).written) }
     ensures flushed { IfOk result (λ ended. O.kept ended.1 ≡ []) }
     ensures refused { IfErr result (λ failure. NotDumped (R.held rt.now) (R.refuses rt.now)
-        (stream_of (R.held rt.now) (R.given rt.now) (capture_of asked.entry))
+        (stream_octets (R.held rt.now) (R.given rt.now) (capture_of asked.entry))
         B.begins asked.entry (fault_of failure) (log_of O.log failure)) }
     ensures seen { IfErr result (SeenWhereReadingFailed O.log O.kept) }
 {
@@ -65,27 +65,27 @@ fn open_and_dump<'a, R: Inputs + AllocGlobal, O: Flush + Drop, N: Notices + Drop
     requires told { N.told notices [] }
     requires begins { BeginsAs B.begins asked catalogue.now (O.log out).written }
     ensures dumped { IfOk result (λ ended. CaptureDumped ended.0 B.begins asked.entry
-        (stream_of (R.held rt.now) (R.given rt.now) (capture_of asked.entry))
+        (stream_octets (R.held rt.now) (R.given rt.now) (capture_of asked.entry))
         (O.log ended.1).written) }
     ensures flushed { IfOk result (λ ended. O.kept ended.1 ≡ []) }
     ensures refused { IfErr result (λ failure.
         NoStream (R.refuses rt.now) (capture_of asked.entry) (fault_of failure)
         ⊎ RunFailed B.begins asked.entry
-        (stream_of (R.held rt.now) (R.given rt.now) (capture_of asked.entry))
+        (stream_octets (R.held rt.now) (R.given rt.now) (capture_of asked.entry))
         (fault_of failure) (log_of O.log failure)) }
     ensures seen { IfErr result (SeenWhereReadingFailed O.log O.kept) }
 {
     let Some(name) = asked.capture else {
-        return dump::<_, _, _, _, B>(rt, rt.standard_input(), asked, catalogue, out, notices);
+        return dump_from::<_, _, _, _, B>(rt, rt.standard_input(), asked, catalogue, out, notices);
     };
     match open_file(rt, name) {
-        Ok(file) => dump::<_, _, _, _, B>(rt, file, asked, catalogue, out, notices),
+        Ok(file) => dump_from::<_, _, _, _, B>(rt, file, asked, catalogue, out, notices),
         Err(fault) => Err(DumpError::Step(fault)),
     }
 }
 
 /// Takes the steps after the capture was opened.
-fn dump<
+fn dump_from<
     'a,
     R: Inputs + AllocGlobal,
     S: Source + Drop,
@@ -117,17 +117,23 @@ fn dump<
     let Ok(mut capture) = Capture::new(rt.alloc()) else {
         return Err(DumpError::Step(ProgramError::OutOfMemory));
     };
-    let Ok(mut reader) = reader::<O, N, B>(rt.alloc(), asked, catalogue, &requests, out, notices)
-    else {
+    let Ok(mut reader) = new_dump_reader::<O, N, B>(
+        rt.alloc(),
+        asked,
+        catalogue,
+        &requests,
+        out,
+        notices,
+    ) else {
         return Err(DumpError::Step(ProgramError::OutOfMemory));
     };
     let ended = dump_capture(&mut source, &mut capture, &mut reader);
     let teller = reader.into_listener();
-    let is_full = teller.is_full();
+    let has_refused = teller.has_refused();
     let out = teller.into_out();
     match ended {
         Ok(ending) => Ok((ending, flush_out(out)?)),
-        Err(_) if is_full => Err(DumpError::Step(ProgramError::OutOfMemory)),
+        Err(_) if has_refused => Err(DumpError::Step(ProgramError::OutOfMemory)),
         Err(fault) => Err(DumpError::Run(fault, out)),
     }
 }
@@ -146,7 +152,7 @@ fn flush_out<'a, O: Flush + Drop>(mut out: O) -> Result<O, DumpError<'a, O>>
 }
 
 /// Takes all memory for the connections and conversations of a capture.
-fn reader<'c, O: Flush + Drop, N: Notices + Drop, B: Beginning>(
+fn new_dump_reader<'c, O: Flush + Drop, N: Notices + Drop, B: Beginning>(
     alloc: Global,
     asked: Arguments<'_>,
     catalogue: &'c Catalogue,
@@ -154,7 +160,7 @@ fn reader<'c, O: Flush + Drop, N: Notices + Drop, B: Beginning>(
     out: O,
     notices: N,
 ) -> Result<PacketReader<Teller<'c, O, B>, N>, AllocError>
-    requires of { AreOf catalogue.now requests.now }
+    requires of { IsRequestTableOf catalogue.now requests.now }
     requires told { N.told notices [] }
     requires begins { BeginsAs B.begins asked catalogue.now (O.log out).written }
     ensures { IfOk result (λ r. HasRead (λ events. Follows r.streams.listener.conversations events

@@ -2,9 +2,9 @@
 
 ghost use Rattle.std.specs.Prelude.{◌≡◌, ◌<◌, ◌⊎◌, ◌||◌, [], true, nat_lt};
 ghost use Rattle.tcp_flow.specs.Flow.{OfCapture, Passes};
-ghost use Rattle.giop_capture.specs.Notices.{is_room, seen, seen_after};
+ghost use Rattle.giop_capture.specs.Notices.{is_for_room, seen, seen_after};
 
-use crate::{CaptureListener, Seen, is_tls, is_ziop};
+use crate::{CaptureListener, Seen, begins_as_tls, begins_as_ziop};
 use capture_file::CaptureFault;
 use giop_conversation::Conversations;
 use giop_run::Flush;
@@ -57,19 +57,19 @@ impl<'a, O: Flush + Drop, B: Beginning> Teller<'a, O, B> {
         }
     }
 
-    /// Whether it has failed without a put, as `Conversations::is_full` says.
-    pub fn is_full(&self) -> bool
-        ensures { result ≡ self.now.conversations.out.full }
+    /// Whether it has failed without a put, as `Conversations::has_refused` says.
+    pub fn has_refused(&self) -> bool
+        ensures { result ≡ self.now.conversations.out.refused }
     {
-        self.conversations.is_full()
+        self.conversations.has_refused()
     }
 
     /// Gives the out below back.
     pub fn into_out(self) -> O
         ensures written { (O.log result).written ≡ self.entry.conversations.out.whole }
-        // If it has failed, the out below has failed, unless it is full.
+        // If it has failed, the out below has failed, unless it has refused.
         ensures cause { 0 < self.entry.conversations.out.failures →
-            (0 < (O.log result).failures) ⊎ (self.entry.conversations.out.full ≡ true) }
+            (0 < (O.log result).failures) ⊎ (self.entry.conversations.out.refused ≡ true) }
     {
         self.conversations.into_out()
     }
@@ -78,7 +78,7 @@ impl<'a, O: Flush + Drop, B: Beginning> Teller<'a, O, B> {
 /// Whether a connection has made room for another one, after a stream closes: one had before, or the stream closes for this
 /// cause.
 fn has_made_room(before: bool, cause: CloseCause) -> bool
-    ensures { result ≡ (before || is_room cause) }
+    ensures { result ≡ (before || is_for_room cause) }
 {
     match cause {
         CloseCause::Room => true,
@@ -92,13 +92,13 @@ fn has_made_room(before: bool, cause: CloseCause) -> bool
 }
 
 /// What was seen, after a payload in which no stream begins.
-fn seen_in(before: Seen, octets: &[u8]) -> Seen
+fn seen_after_payload(before: Seen, octets: &[u8]) -> Seen
     ensures { result ≡ seen_after before (OfCapture (Passes octets.now)) }
 {
     Seen {
         room: before.room,
-        tls: before.tls || is_tls(octets),
-        ziop: before.ziop || is_ziop(octets),
+        tls: before.tls || begins_as_tls(octets),
+        ziop: before.ziop || begins_as_ziop(octets),
     }
 }
 
@@ -120,8 +120,8 @@ impl<'a, O: Flush + Drop, B: Beginning> Listener for Teller<'a, O, B> {
 
     ghost reader = { stream_reader };
 
-    fn on_open(&mut self, flow: u32, endpoints: Flow) -> Result<(), ListenerError> {
-        self.conversations.on_open(flow, endpoints);
+    fn on_new_flow(&mut self, flow: u32, endpoints: Flow) -> Result<(), ListenerError> {
+        self.conversations.on_new_flow(flow, endpoints);
         Ok(())
     }
 
@@ -129,9 +129,9 @@ impl<'a, O: Flush + Drop, B: Beginning> Listener for Teller<'a, O, B> {
         self.conversations.on_arrival(arrival);
     }
 
-    fn on_pass(&mut self, octets: &[u8]) {
-        self.seen = seen_in(self.seen, octets);
-        self.conversations.on_pass();
+    fn on_looked_through(&mut self, octets: &[u8]) {
+        self.seen = seen_after_payload(self.seen, octets);
+        self.conversations.on_looked_through();
     }
 
     fn on_begin(&mut self, flow: u32, start: Start) -> Result<(), ListenerError> {
@@ -148,8 +148,8 @@ impl<'a, O: Flush + Drop, B: Beginning> Listener for Teller<'a, O, B> {
         }
     }
 
-    fn lacks(&mut self, flow: u32) -> Result<Option<u32>, ListenerError> {
-        match self.conversations.lacks(flow) {
+    fn message_lacks(&mut self, flow: u32) -> Result<Option<u32>, ListenerError> {
+        match self.conversations.message_lacks(flow) {
             Ok(count) => Ok(count),
             Err(_) => Err(ListenerError),
         }
@@ -185,7 +185,10 @@ impl<'a, O: Flush + Drop, B: Beginning> CaptureListener for Teller<'a, O, B> {
     }
 
     fn on_fault(&mut self, fault: CaptureFault) -> Result<(), ListenerError> {
-        match self.conversations.fault(fault.kind.word(), fault.place) {
+        match self
+            .conversations
+            .write_capture_fault(fault.kind.word(), fault.place)
+        {
             Ok(()) => Ok(()),
             Err(_) => Err(ListenerError),
         }

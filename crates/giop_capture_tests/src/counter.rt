@@ -36,7 +36,7 @@ impl PacketListener for Counter {
 
     ghost flushed = { λ _. Unit {0} };
 
-    fn packet(&mut self, packet: Packet<'_>) -> Result<(), OutFault> {
+    fn on_packet(&mut self, packet: Packet<'_>) -> Result<(), OutFault> {
         self.packets = self.packets.wrapping_add(1);
         if self.packets == self.fails_at {
             return Err(OutFault);

@@ -20,7 +20,7 @@ impl Beginning for Empty {
 }
 
 /// How the dump of a capture ended, and its text. If anything fails, there is none.
-pub fn text_of(alloc: Global, capture: &[u8]) -> Option<(Ending, Vec<u8>)>
+pub fn dump_in_memory(alloc: Global, capture: &[u8]) -> Option<(Ending, Vec<u8>)>
     ensures { IfSome result (λ dump. IsDumpOf capture.now dump.0 dump.1.items) }
 {
     let asked = Arguments {

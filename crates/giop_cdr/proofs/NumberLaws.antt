@@ -4,7 +4,7 @@ use Rattle.std.proofs.lemmas.List.{reverse-append, length-reverse}
 use Rattle.std.proofs.Math.Nat.{mul-le-mul_left}
 use Rattle.giop_cdr.specs.declared.order.Order.{Order}
 use Rattle.giop_cdr.specs.declared.order.Order.TheVariants.{Big, Little}
-use Rattle.giop_cdr.specs.Numbers.{AreOctets, little, num}
+use Rattle.giop_cdr.specs.Numbers.{AreOctets, little_endian_number, num}
 
 -- no octets are the number 0
 pub num-nil : (order : Order) → num order [] ≡ 0
@@ -12,7 +12,8 @@ unfolding num
 num-nil Big = refl
 num-nil Little = refl
 
-little-push : (xs : List ℕ) (x : ℕ) → little (xs ++ x ∷ []) ≡ little xs + x * 256 ^ length xs
+little-push : (xs : List ℕ) (x : ℕ) → little_endian_number (xs ++ x ∷ [])
+    ≡ little_endian_number xs + x * 256 ^ length xs
 little-push [] x = omega arith
 little-push (y ∷ xs) x = rw (little-push xs x, pow-suc) (omega arith)
 

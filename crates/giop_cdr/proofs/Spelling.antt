@@ -3,24 +3,27 @@
 use Rattle.std.proofs.Common.{◌≡◌, ℕ, zero, suc, ◌+◌, ◌-◌, ◌*◌, ◌^◌, ◌<◌, ◌≤◌, List, length, take, drop, get_or, reverse, ◌∙◌, ap, arith, add-zero, add-one, pow-suc, add-suc, le_refl}
 use Rattle.std.proofs.lemmas.List.{take_more, take_all, drop_more, reverse-append}
 use Rattle.giop_cdr.specs.declared.order.Order.TheVariants.{Big, Little}
-use Rattle.giop_cdr.specs.Numbers.{little, num}
+use Rattle.giop_cdr.specs.Numbers.{little_endian_number, num}
 
 -- from the front, the most significant first
-pub big_more : (xs : List ℕ) (i n x : ℕ) → i < length xs → n ≡ little (reverse (take i xs)) →
-    x ≡ get_or xs i 0 → n * 256 + x ≡ little (reverse (take (i + 1) xs))
+pub big_more : (xs : List ℕ) (i n x : ℕ) → i < length xs → n ≡ little_endian_number
+    (reverse (take i xs)) →
+    x ≡ get_or xs i 0 → n * 256 + x ≡ little_endian_number (reverse (take (i + 1) xs))
 big_more xs i n x h e is = rw (take_more xs i 0 h, ← is, reverse-append, e) (omega arith)
 
-pub big_all : (xs : List ℕ) (i n : ℕ) → length xs ≤ i → n ≡ little (reverse (take i xs)) →
+pub big_all : (xs : List ℕ) (i n : ℕ) → length xs ≤ i → n ≡ little_endian_number
+    (reverse (take i xs)) →
     n ≡ num Big xs
 unfolding num
-big_all xs i n h e = e ∙ ap (λ ys. little (reverse ys)) (take_all i xs h)
+big_all xs i n h e = e ∙ ap (λ ys. little_endian_number (reverse ys)) (take_all i xs h)
 
 -- from the back, the least significant first
-pub little_more : (xs : List ℕ) (i n x : ℕ) → i < length xs → n ≡ little (drop (i + 1) xs) →
-    x ≡ get_or xs i 0 → n * 256 + x ≡ little (drop i xs)
+pub little_more : (xs : List ℕ) (i n x : ℕ) → i < length xs → n ≡ little_endian_number
+    (drop (i + 1) xs) →
+    x ≡ get_or xs i 0 → n * 256 + x ≡ little_endian_number (drop i xs)
 little_more xs i n x h e is = rw (drop_more xs i 0 h, ← is, e) (omega arith)
 
-pub little_all : (xs : List ℕ) (n : ℕ) → n ≡ little (drop 0 xs) → n ≡ num Little xs
+pub little_all : (xs : List ℕ) (n : ℕ) → n ≡ little_endian_number (drop 0 xs) → n ≡ num Little xs
 unfolding num
 little_all xs n e = e
 

@@ -4,7 +4,7 @@ use Rattle.giop_cdr.specs.declared.prim.Primitive.{Primitive}
 use Rattle.giop_cdr.specs.declared.prim.Primitive.TheVariants.{Octet, Char, Boolean, Short, UShort, Long, ULong, LongLong, ULongLong, Float, Double}
 
 -- how many octets a primitive has; it is aligned to this number too
-abbrev pub size_of : Primitive → ℕ
+abbrev pub size_of : (primitive : Primitive) → ℕ
 size_of Octet = 1
 size_of Char = 1
 size_of Boolean = 1

@@ -34,12 +34,12 @@ pub fn number_of(order: Order, prim: Prim, octets: &[u8]) -> Result<Number, CdrF
     ensures err { IsErr result ↔ ((prim ≡ prims.Boolean) × (1 < num order octets.now)) }
     ensures octets { AreOctets octets.now }
 {
-    interpreted(prim, spelled(order, octets))
+    value_as_primitive(prim, number_in_order(order, octets))
 }
 
 /// The whole number that octets are in this byte order.
 #[inline(always)]
-fn spelled(order: Order, octets: &[u8]) -> u64
+fn number_in_order(order: Order, octets: &[u8]) -> u64
     requires { length octets.now ≤ 8 }
     ensures value { result ≡ num order octets.now }
     ensures bound { result < 256 ^ length octets.now }
@@ -53,7 +53,7 @@ fn spelled(order: Order, octets: &[u8]) -> u64
 /// The value of a primitive that a whole number of its size is.
 #[inline(always)]
 #[tactic(auto, unfolding(crate::specs::Numbers::twos_complement))]
-fn interpreted(prim: Prim, n: u64) -> Result<Number, CdrFault>
+fn value_as_primitive(prim: Prim, n: u64) -> Result<Number, CdrFault>
     requires { n < 256 ^ size_of prim }
     ensures ok { IfOk result (λ number. interpreted_as prim n ≡ Some number) }
     ensures err { IsErr result ↔ ((prim ≡ prims.Boolean) × (1 < n)) }

@@ -5,20 +5,21 @@ use Rattle.giop_octets.specs.Fields.{four, eight}
 use Rattle.giop_octets.proofs.FieldLaws.{four_long, eight_long, behind}
 use Rattle.giop_checkpoint.specs.declared.layout.Layout.{Layout}
 use Rattle.giop_checkpoint.specs.declared.layout.Layout.TheVariants.{Second, Third, Latest}
-use Rattle.giop_checkpoint.specs.Layouts.{version_of, reads, number_or, owner_octet, mixed_octet, limit_octets}
+use Rattle.giop_checkpoint.specs.Layouts.{version_of, reads_layout, record_number_or, owner_octet, mixed_octet, limit_octets}
 use Rattle.giop_checkpoint.specs.declared.fixed.Counts.{Counts}
 use Rattle.giop_checkpoint.specs.declared.fixed.Fixed.{Fixed}
 use Rattle.giop_checkpoint.specs.Fixed.{HasRange, magic, counts_octets, place_octets, state_octets, fixed_octets}
-use Rattle.giop_checkpoint.specs.Refusals.{IsLaidOut, IsOurs, IsNotOurs, HasState}
+use Rattle.giop_checkpoint.specs.Refusals.{HasLayoutVersion, PassesUpToCounts, FailsUpToCounts, HasState}
 use Rattle.giop_checkpoint.specs.Records.{AreRecords}
 use Rattle.giop_checkpoint.specs.declared.fault.LoadFault.{LoadFault}
 use Rattle.giop_checkpoint.specs.declared.fault.LoadFault.TheVariants as faults
 use Rattle.giop_checkpoint.proofs.Places.{place_long}
 use Rattle.giop_checkpoint.proofs.Versions.{one_layout}
 
-pub record Front (layout : Layout) (c : Counts) (f : Fixed) (s records : List ℕ) : Type 0 where
-  pub ours : IsOurs c s
-  pub laid_out : IsLaidOut s layout
+pub record HasFixedFields (layout : Layout) (c : Counts) (f : Fixed)
+    (s records : List ℕ) : Type 0 where
+  pub ours : PassesUpToCounts c s
+  pub laid_out : HasLayoutVersion s layout
   pub octets : take 68 (drop 28 s) ≡ state_octets layout f
   pub state : HasState c f s
   pub rest : drop 96 s ≡ records
@@ -43,16 +44,16 @@ counts_long c =
     )
 
 later_long : (n : ℕ) (owner : Option ℕ) (mixed : ℕ) →
-    length (four n ++ four (number_or 4294967295 owner) ++ mixed ∷ replicate 7 0) ≡ 16
+    length (four n ++ four (record_number_or 4294967295 owner) ++ mixed ∷ replicate 7 0) ≡ 16
 later_long n owner mixed =
     let rest : List ℕ = mixed ∷ replicate 7 0 in
     let rest_long : length rest ≡ 8 = refl in
     omega (
       arith,
-      length-append (four n ++ four (number_or 4294967295 owner)) rest,
-      length-append (four n) (four (number_or 4294967295 owner)),
+      length-append (four n ++ four (record_number_or 4294967295 owner)) rest,
+      length-append (four n) (four (record_number_or 4294967295 owner)),
       four_long n,
-      four_long (number_or 4294967295 owner),
+      four_long (record_number_or 4294967295 owner),
       rest_long,
     )
 
@@ -97,8 +98,8 @@ front_is : (at size : ℕ) (s field rest : List ℕ) → drop at s ≡ field ++ 
 front_is at size s field rest e long = ap (take size) e ∙ take_at field rest size long
 
 pub front_of : (layout : Layout) (c : Counts) (f : Fixed) (s records : List ℕ) → f.counts ≡ c →
-    reads c.version layout ≡ true → HasRange layout f → s ≡ fixed_octets layout f ++ records
-    → Front layout c f s records
+    reads_layout c.version layout ≡ true → HasRange layout f → s ≡ fixed_octets layout f ++ records
+    → HasFixedFields layout c f s records
 unfolding fixed_octets
 front_of layout c f s records own read h e =
     let version = four (version_of layout) in
@@ -147,21 +148,23 @@ front_of layout c f s records own read h e =
 
 -- ---- octets have one layout
 
-pub one_layout_of : (s : List ℕ) (layout other : Layout) → IsLaidOut s layout → IsLaidOut s other →
+pub one_layout_of : (s : List ℕ) (layout other : Layout) → HasLayoutVersion s layout
+    → HasLayoutVersion s other →
     layout ≡ other
 one_layout_of s layout other h k = one_layout (take 4 (drop 8 s)) layout other h k
 
 pub stated_by : (s octets : List ℕ) (layout other : Layout) (f : Fixed) →
-    octets ≡ take 68 (drop 28 s) → IsLaidOut s layout → IsLaidOut s other
+    octets ≡ take 68 (drop 28 s) → HasLayoutVersion s layout → HasLayoutVersion s other
     → take 68 (drop 28 s) ≡ state_octets other f → octets ≡ state_octets layout f
 stated_by s octets layout other f front h k e =
     front ∙ (e ∙ ap (λ (l : Layout). state_octets l f) (one_layout_of s other layout k h))
 
-pub range_by : (s : List ℕ) (layout other : Layout) (f : Fixed) → IsLaidOut s layout →
-    IsLaidOut s other → HasRange other f → HasRange layout f
+pub range_by : (s : List ℕ) (layout other : Layout) (f : Fixed) → HasLayoutVersion s layout →
+    HasLayoutVersion s other → HasRange other f → HasRange layout f
 range_by s layout other f h k r = rw (one_layout_of s layout other h k) r
 
-pub ours_not : (c : Counts) (s : List ℕ) (why : LoadFault) → IsOurs c s → IsNotOurs c s why → ⊥
+pub ours_not : (c : Counts) (s : List ℕ) (why : LoadFault) → PassesUpToCounts c s
+    → FailsUpToCounts c s why → ⊥
 ours_not c s faults.Magic h r = r.1 h.1
 ours_not c s faults.Version h r = r.2 h.2
 ours_not c s faults.Catalogue h r = r.3 h.3

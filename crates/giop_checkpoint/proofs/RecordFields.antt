@@ -7,18 +7,18 @@ use Rattle.giop_checkpoint.specs.declared.record.Record.{Record}
 use Rattle.giop_checkpoint.specs.declared.sizes.TheConstants.{FRAME_SIZE}
 use Rattle.giop_checkpoint.specs.declared.record.RecordKind.{RecordKind}
 use Rattle.giop_checkpoint.specs.declared.record.RecordKind.TheVariants.{Current, Open, Over, OpenWithoutId, OverWithoutId}
-use Rattle.giop_checkpoint.specs.Records.{Entry, EntryHasRange, RecordHasRange, RecordKindHasRange, record_kind_octet, id_of, kind_octets, own_octets, entry_octets}
+use Rattle.giop_checkpoint.specs.Records.{StoredRecord, StoredRecordHasRange, RecordHasRange, RecordKindHasRange, record_kind_octet, request_id_or_0, kind_octets, own_octets, stored_record_octets}
 
 five : (a b c d e : List ℕ) → a ++ b ++ c ++ d ++ e ≡ a ++ (b ++ (c ++ (d ++ e)))
 five a b c d e = append_assoc (a ++ b ++ c) d e ∙ append_assoc (a ++ b) c (d ++ e)
     ∙ append_assoc a b (c ++ (d ++ e))
 
-pub record Fields (r : Record) (octets : List ℕ) : Type 0 where
+pub record HasRecordFields (r : Record) (octets : List ℕ) : Type 0 where
   pub frames : drop 0 octets ≡ r.frames ∷ drop 1 octets
   pub record_kind : drop 1 octets ≡ record_kind_octet r.record_kind ∷ drop 2 octets
   pub number : drop 2 octets ≡ eight r.number ++ drop 10 octets
   pub header : drop 10 octets ≡ r.header ++ drop 22 octets
-  pub id : drop 22 octets ≡ four (id_of r.record_kind) ++ replicate 6 0
+  pub id : drop 22 octets ≡ four (request_id_or_0 r.record_kind) ++ replicate 6 0
 
 kind_is : (r : Record) (octets rest : List ℕ) → octets ≡ kind_octets r ++ rest →
     octets ≡ r.frames ∷ record_kind_octet r.record_kind ∷ rest
@@ -26,14 +26,15 @@ unfolding kind_octets
 kind_is r octets rest e = e
 
 pub fields_of : (r : Record) (octets : List ℕ) → RecordHasRange r → octets ≡ own_octets r →
-    Fields r octets
+    HasRecordFields r octets
 unfolding own_octets
 fields_of r octets h e =
     let zeros : List ℕ = replicate 6 0 in
-    let rest : List ℕ = eight r.number ++ (r.header ++ (four (id_of r.record_kind) ++ zeros)) in
+    let rest : List ℕ = eight r.number ++ (r.header
+    ++ (four (request_id_or_0 r.record_kind) ++ zeros)) in
     let whole : octets ≡ r.frames ∷ record_kind_octet r.record_kind ∷ rest =
     kind_is r octets rest (e ∙ five (kind_octets r) (eight r.number) r.header
-    (four (id_of r.record_kind)) zeros) in
+    (four (request_id_or_0 r.record_kind)) zeros) in
     let at_2 : drop 2 octets ≡ rest = ap (drop 2) whole in
     let at_10 = behind 2 8 octets _ _ at_2 (eight_long r.number) in
     let at_22 = behind 10 12 octets _ _ at_10 h.typed.header in
@@ -54,12 +55,13 @@ own_long r h =
     omega (
       arith,
       length-append (kind_octets r ++ eight r.number ++ r.header
-          ++ four (id_of r.record_kind)) zeros,
-      length-append (kind_octets r ++ eight r.number ++ r.header) (four (id_of r.record_kind)),
+          ++ four (request_id_or_0 r.record_kind)) zeros,
+      length-append (kind_octets r ++ eight r.number ++ r.header)
+          (four (request_id_or_0 r.record_kind)),
       length-append (kind_octets r ++ eight r.number) r.header,
       length-append (kind_octets r) (eight r.number),
       eight_long r.number,
-      four_long (id_of r.record_kind),
+      four_long (request_id_or_0 r.record_kind),
       h.typed.header,
       zeros_long,
     )
@@ -72,7 +74,7 @@ first_is r [] h e = absurd (let none : length (take {A = ℕ} 32 []) ≡ 0 = ref
     omega (arith, ap length e, own_long r h, none))
 first_is r (x ∷ xs) h e = ap (λ (ys : List ℕ). get_or ys 0 0) e
 
-pub id_small : (s : RecordKind) → RecordKindHasRange s → id_of s < 2 ^ 32
+pub id_small : (s : RecordKind) → RecordKindHasRange s → request_id_or_0 s < 2 ^ 32
 id_small Current h = omega arith
 id_small (Open id) h = h
 id_small (Over id) h = h
@@ -85,7 +87,7 @@ record_same r s a b c d = rw (a, b, c, d) refl
 
 -- ---- a record at the beginning of octets, with its message and its frames
 
-pub record Front (e : Entry) (s rest : List ℕ) : Type 0 where
+pub record BeginsWithRecord (e : StoredRecord) (s rest : List ℕ) : Type 0 where
   pub own : take 32 s ≡ own_octets e.record_is
   pub message : take 224 (drop 32 s) ≡ e.message
   pub frames : take (FRAME_SIZE * e.record_is.frames) (drop 224 (drop 32 s)) ≡ e.frames
@@ -95,8 +97,9 @@ front_is : (at size : ℕ) (s field rest : List ℕ) → drop at s ≡ field ++ 
     take size (drop at s) ≡ field
 front_is at size s field rest e long = ap (take size) e ∙ take_at field rest size long
 
-pub front_of : (e : Entry) (s rest : List ℕ) → EntryHasRange e → s ≡ entry_octets e ++ rest →
-    Front e s rest
+pub front_of : (e : StoredRecord) (s rest : List ℕ) → StoredRecordHasRange e → s
+    ≡ stored_record_octets e ++ rest →
+    BeginsWithRecord e s rest
 front_of e s rest h is =
     let own = own_octets e.record_is in
     let whole : drop 0 s ≡ own ++ (e.message ++ (e.frames ++ rest)) =

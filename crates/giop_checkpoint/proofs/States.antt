@@ -8,7 +8,7 @@ use Rattle.giop_checkpoint.specs.declared.fixed.Counts.{Counts}
 use Rattle.giop_checkpoint.specs.declared.fixed.Fixed.{Fixed}
 use Rattle.giop_checkpoint.specs.declared.fixed.NextOctet.{NextOctet}
 use Rattle.giop_checkpoint.specs.Fixed.{HasRange, place_octets, state_octets}
-use Rattle.giop_checkpoint.specs.Layouts.{OpenHasRange, IsAmong, MixedFits, number_or, owner_octet, mixed_octet, limit_octets}
+use Rattle.giop_checkpoint.specs.Layouts.{OpenHasRange, IsAmongRecords, MixedFits, record_number_or, owner_octet, mixed_octet, limit_octets}
 use Rattle.giop_checkpoint.specs.declared.layout.Layout.{Layout}
 use Rattle.giop_checkpoint.specs.declared.layout.Layout.TheVariants.{Second, Third, Latest}
 use Rattle.giop_checkpoint.proofs.Places.{parts_of, place_long}
@@ -18,7 +18,7 @@ six a b c d e f =
     append_assoc (a ++ b ++ c ++ d) e f ∙ append_assoc (a ++ b ++ c) d (e ++ f)
     ∙ append_assoc (a ++ b) c (d ++ (e ++ f)) ∙ append_assoc a b (c ++ (d ++ (e ++ f)))
 
-pub record Fields (layout : Layout) (f : Fixed) (octets : List ℕ) : Type 0 where
+pub record HasStateFields (layout : Layout) (f : Fixed) (octets : List ℕ) : Type 0 where
   pub records : drop 0 octets ≡ four f.records ++ drop 4 octets
   pub read : drop 4 octets ≡ eight f.octets ++ drop 12 octets
   pub messages : drop 12 octets ≡ eight f.messages ++ drop 20 octets
@@ -28,7 +28,7 @@ pub record Fields (layout : Layout) (f : Fixed) (octets : List ℕ) : Type 0 whe
   pub limits : drop 52 octets ≡ limit_octets layout f.most_open f.owner f.is_mixed
 
 pub fields_of : (layout : Layout) (f : Fixed) (octets : List ℕ) → HasRange layout f →
-    octets ≡ state_octets layout f → Fields layout f octets
+    octets ≡ state_octets layout f → HasStateFields layout f octets
 unfolding state_octets
 fields_of layout f octets h e =
     let place = place_octets f.place (owner_octet layout f.owner) in
@@ -61,31 +61,32 @@ open_few Second n h = omega (arith, h)
 open_few Third n h = h.1
 open_few Latest n h = h.1
 
-pub among_more : (records most : ℕ) (owner : Option ℕ) → records ≤ most → IsAmong records owner →
-    IsAmong most owner
+pub among_more : (records most : ℕ) (owner : Option ℕ) → records ≤ most
+    → IsAmongRecords records owner →
+    IsAmongRecords most owner
 among_more records most None few h = h
 among_more records most (Some k) few h = omega (arith, few, h)
 
 -- ---- the fields after the place, which layout 3 introduced
 
-abbrev mixed_zeros : ℕ → List ℕ
+abbrev mixed_zeros : (mixed : ℕ) → List ℕ
 mixed_zeros mixed = mixed ∷ replicate 7 0
 
 pub number_is : (n : ℕ) (owner : Option ℕ) (mixed : ℕ) (s : List ℕ) →
-    s ≡ four n ++ four (number_or 4294967295 owner) ++ mixed ∷ replicate 7 0 →
-    drop 4 s ≡ four (number_or 4294967295 owner) ++ mixed ∷ replicate 7 0
+    s ≡ four n ++ four (record_number_or 4294967295 owner) ++ mixed ∷ replicate 7 0 →
+    drop 4 s ≡ four (record_number_or 4294967295 owner) ++ mixed ∷ replicate 7 0
 number_is n owner mixed s e =
-    behind 0 4 s (four n) (four (number_or 4294967295 owner) ++ mixed_zeros mixed)
-    (e ∙ append_assoc (four n) (four (number_or 4294967295 owner)) (mixed_zeros mixed))
+    behind 0 4 s (four n) (four (record_number_or 4294967295 owner) ++ mixed_zeros mixed)
+    (e ∙ append_assoc (four n) (four (record_number_or 4294967295 owner)) (mixed_zeros mixed))
     (four_long n)
 
 -- the octet that tells whether messages of GIOP 1.1 are mixed, which the latest layout introduced
 mixed_after : (n : ℕ) (owner : Option ℕ) (mixed : ℕ) (s : List ℕ) →
-    s ≡ four n ++ four (number_or 4294967295 owner) ++ mixed ∷ replicate 7 0 →
+    s ≡ four n ++ four (record_number_or 4294967295 owner) ++ mixed ∷ replicate 7 0 →
     drop 8 s ≡ mixed ∷ replicate 7 0
 mixed_after n owner mixed s e =
-    behind 4 4 s (four (number_or 4294967295 owner)) (mixed_zeros mixed)
-    (number_is n owner mixed s e) (four_long (number_or 4294967295 owner))
+    behind 4 4 s (four (record_number_or 4294967295 owner)) (mixed_zeros mixed)
+    (number_is n owner mixed s e) (four_long (record_number_or 4294967295 owner))
 
 pub mixed_is : (layout : Layout) (n : ℕ) (owner : Option ℕ) (is_mixed : Bool) (s : List ℕ) →
     s ≡ limit_octets layout n owner is_mixed →
@@ -101,8 +102,8 @@ mixed_told Third is_mixed fits = rw fits refl
 mixed_told Latest true fits = refl
 mixed_told Latest false fits = refl
 
-pub number_small : (most : ℕ) (owner : Option ℕ) → most ≤ 4097 → IsAmong most owner →
-    number_or 4294967295 owner < 2 ^ 32
+pub number_small : (most : ℕ) (owner : Option ℕ) → most ≤ 4097 → IsAmongRecords most owner →
+    record_number_or 4294967295 owner < 2 ^ 32
 number_small most None few h = omega arith
 number_small most (Some k) few h = omega (arith, few, h)
 

@@ -1,7 +1,7 @@
 -- The fixed part of a checkpoint, octet for octet (docs/FORMATS.md, Checkpoints; state).
 use Rattle.std.specs.Prelude.{◌≡◌, ℕ, ◌+◌, ◌-◌, ◌^◌, ◌<◌, ◌≤◌, List, [], ◌∷◌, ◌++◌, length, replicate, codes}
 use Rattle.giop_octets.specs.Fields.{four, eight}
-use Rattle.giop_checkpoint.specs.Layouts.{version_of, OpenHasRange, IsAmong, MixedFits, owner_octet, limit_octets}
+use Rattle.giop_checkpoint.specs.Layouts.{version_of, OpenHasRange, IsAmongRecords, MixedFits, owner_octet, limit_octets}
 use Rattle.giop_checkpoint.specs.declared.layout.Layout.{Layout}
 use Rattle.giop_checkpoint.specs.declared.fault.StreamFault.{StreamFault}
 use Rattle.giop_checkpoint.specs.declared.fault.StreamFault.TheVariants as faults
@@ -12,7 +12,7 @@ use Rattle.giop_checkpoint.specs.declared.fixed.NextOctet.TheVariants.{Header, P
 
 -- ---- ranges
 
-abbrev pub PlaceHasRange : NextOctet → Type 0
+abbrev pub PlaceHasRange : (place : NextOctet) → Type 0
 PlaceHasRange (Header held) = length held.items ≤ 11
 PlaceHasRange (Payload header left) = (length header ≡ 12) × (left < 2 ^ 32)
 PlaceHasRange (Stopped fault) = Unit {0}
@@ -25,7 +25,7 @@ pub record HasRange (layout : Layout) (f : Fixed) : Type 0 where
   pub messages : f.messages ≤ 2 ^ 45
   pub faults : f.faults ≤ 2 ^ 45 + 1
   pub place : PlaceHasRange f.place
-  pub owner : IsAmong f.records f.owner
+  pub owner : IsAmongRecords f.records f.owner
   pub mixed : MixedFits layout f.is_mixed
 
 -- ---- layout
@@ -33,10 +33,10 @@ pub record HasRange (layout : Layout) (f : Fixed) : Type 0 where
 unfoldable pub magic : List ℕ
 magic = codes "GIOPDUMP"
 
-unfoldable pub counts_octets : Counts → List ℕ
+unfoldable pub counts_octets : (counts : Counts) → List ℕ
 counts_octets c = four c.types ++ four c.operations ++ four c.exceptions ++ four c.ids
 
-abbrev pub fault_octet : StreamFault → ℕ
+abbrev pub fault_octet : (fault : StreamFault) → ℕ
 fault_octet faults.Magic = 1
 fault_octet faults.Version = 2
 fault_octet faults.ByteOrder = 3
@@ -45,7 +45,7 @@ fault_octet faults.StreamLimit = 5
 -- Four octets: the place, the stream fault's number, how many header octets are held, and, in
 -- layout 2, the payload's record. After them come the header octets, and how many payload octets
 -- are still to come.
-abbrev pub place_octets : NextOctet → ℕ → List ℕ
+abbrev pub place_octets : (next_octet : NextOctet) (owner : ℕ) → List ℕ
 place_octets (Header held) owner =
     (0 ∷ 0 ∷ length held.items ∷ owner ∷ []) ++ held.items ++ replicate (12 - length held.items) 0
     ++ eight 0
@@ -54,38 +54,38 @@ place_octets (Stopped fault) owner = (2 ∷ fault_octet fault ∷ 0 ∷ owner �
     ++ eight 0
 
 -- The fields of these octets, one by one.
-abbrev pub place_octet : NextOctet → ℕ
+abbrev pub place_octet : (place : NextOctet) → ℕ
 place_octet (Header held) = 0
 place_octet (Payload header left) = 1
 place_octet (Stopped fault) = 2
 
-abbrev pub fault_in : NextOctet → ℕ
-fault_in (Header held) = 0
-fault_in (Payload header left) = 0
-fault_in (Stopped fault) = fault_octet fault
+abbrev pub place_fault_octet : (place : NextOctet) → ℕ
+place_fault_octet (Header held) = 0
+place_fault_octet (Payload header left) = 0
+place_fault_octet (Stopped fault) = fault_octet fault
 
-abbrev pub held_in : NextOctet → ℕ
-held_in (Header held) = length held.items
-held_in (Payload header left) = 0
-held_in (Stopped fault) = 0
+abbrev pub place_held_count : (place : NextOctet) → ℕ
+place_held_count (Header held) = length held.items
+place_held_count (Payload header left) = 0
+place_held_count (Stopped fault) = 0
 
-abbrev pub header_in : NextOctet → List ℕ
-header_in (Header held) = held.items ++ replicate (12 - length held.items) 0
-header_in (Payload header left) = header
-header_in (Stopped fault) = replicate 12 0
+abbrev pub place_header_octets : (place : NextOctet) → List ℕ
+place_header_octets (Header held) = held.items ++ replicate (12 - length held.items) 0
+place_header_octets (Payload header left) = header
+place_header_octets (Stopped fault) = replicate 12 0
 
-abbrev pub left_in : NextOctet → ℕ
-left_in (Header held) = 0
-left_in (Payload header left) = left
-left_in (Stopped fault) = 0
+abbrev pub place_octets_left : (place : NextOctet) → ℕ
+place_octets_left (Header held) = 0
+place_octets_left (Payload header left) = left
+place_octets_left (Stopped fault) = 0
 
 -- the octets after the counts
-unfoldable pub state_octets : Layout → Fixed → List ℕ
+unfoldable pub state_octets : (layout : Layout) (fields : Fixed) → List ℕ
 state_octets layout f =
     four f.records ++ eight f.octets ++ eight f.messages ++ eight f.faults
     ++ place_octets f.place (owner_octet layout f.owner)
     ++ limit_octets layout f.most_open f.owner f.is_mixed
 
-unfoldable pub fixed_octets : Layout → Fixed → List ℕ
+unfoldable pub fixed_octets : (layout : Layout) (fields : Fixed) → List ℕ
 fixed_octets layout f =
     magic ++ four (version_of layout) ++ counts_octets f.counts ++ state_octets layout f

@@ -8,7 +8,7 @@ use Rattle.giop_checkpoint.specs.declared.record.RecordKind.TheVariants.{Current
 
 -- ---- ranges
 
-abbrev pub RecordKindHasRange : RecordKind → Type 0
+abbrev pub RecordKindHasRange : (kind : RecordKind) → Type 0
 RecordKindHasRange Current = Unit {0}
 RecordKindHasRange (Open id) = id < 2 ^ 32
 RecordKindHasRange (Over id) = id < 2 ^ 32
@@ -16,50 +16,50 @@ RecordKindHasRange OpenWithoutId = Unit {0}
 RecordKindHasRange OverWithoutId = Unit {0}
 
 -- the ranges that the types of the code give the fields of each record
-pub record IsTyped (r : Record) : Type 0 where
+pub record HasTypeRanges (r : Record) : Type 0 where
   pub record_kind : RecordKindHasRange r.record_kind
   pub number : r.number < 2 ^ 64
   pub header : length r.header ≡ 12
 
 pub record RecordHasRange (r : Record) : Type 0 where
   pub frames : r.frames ≤ MOST_FRAMES
-  pub typed : IsTyped r
+  pub typed : HasTypeRanges r
 
 -- ---- layout
 
-abbrev pub record_kind_octet : RecordKind → ℕ
+abbrev pub record_kind_octet : (kind : RecordKind) → ℕ
 record_kind_octet Current = 0
 record_kind_octet (Open id) = 1
 record_kind_octet (Over id) = 2
 record_kind_octet OpenWithoutId = 3
 record_kind_octet OverWithoutId = 4
 
-abbrev pub id_of : RecordKind → ℕ
-id_of Current = 0
-id_of (Open id) = id
-id_of (Over id) = id
-id_of OpenWithoutId = 0
-id_of OverWithoutId = 0
+abbrev pub request_id_or_0 : (kind : RecordKind) → ℕ
+request_id_or_0 Current = 0
+request_id_or_0 (Open id) = id
+request_id_or_0 (Over id) = id
+request_id_or_0 OpenWithoutId = 0
+request_id_or_0 OverWithoutId = 0
 
 -- the first two octets: how many frames the record has, and its kind
-unfoldable pub kind_octets : Record → List ℕ
+unfoldable pub kind_octets : (record_fields : Record) → List ℕ
 kind_octets r = r.frames ∷ record_kind_octet r.record_kind ∷ []
 
 -- a record's own octets
-unfoldable pub own_octets : Record → List ℕ
-own_octets r = kind_octets r ++ eight r.number ++ r.header ++ four (id_of r.record_kind)
+unfoldable pub own_octets : (record_fields : Record) → List ℕ
+own_octets r = kind_octets r ++ eight r.number ++ r.header ++ four (request_id_or_0 r.record_kind)
     ++ replicate 6 0
 
 -- A record with what is stored of its message: 224 octets, and its frames.
-pub record Entry : Type 0 where
+pub record StoredRecord : Type 0 where
   pub record_is : Record
   pub message : List ℕ
   pub frames : List ℕ
 
-abbrev pub entry_octets : Entry → List ℕ
-entry_octets e = own_octets e.record_is ++ e.message ++ e.frames
+abbrev pub stored_record_octets : (stored : StoredRecord) → List ℕ
+stored_record_octets e = own_octets e.record_is ++ e.message ++ e.frames
 
-pub record EntryHasRange (e : Entry) : Type 0 where
+pub record StoredRecordHasRange (e : StoredRecord) : Type 0 where
   pub own : RecordHasRange e.record_is
   pub message : length e.message ≡ MESSAGE_SIZE
   pub frames : length e.frames ≡ FRAME_SIZE * e.record_is.frames
@@ -67,10 +67,12 @@ pub record EntryHasRange (e : Entry) : Type 0 where
 -- ---- lengths
 
 -- how many octets a record has; the first of its octets is its number of frames
-abbrev pub used : List ℕ → ℕ
-used s = RECORD_SIZE + FRAME_SIZE * get_or s 0 0
+abbrev pub first_record_length : (octets : List ℕ) → ℕ
+first_record_length octets = RECORD_SIZE + FRAME_SIZE * get_or octets 0 0
 
 -- the octets are this many records, each as long as its first octet says, and nothing follows them
-abbrev pub AreRecords : ℕ → List ℕ → Type 0
-AreRecords zero s = s ≡ []
-AreRecords (suc n) s = (used s ≤ length s) × AreRecords n (drop (used s) s)
+abbrev pub AreRecords : (count : ℕ) (octets : List ℕ) → Type 0
+AreRecords zero octets = octets ≡ []
+AreRecords (suc count) octets =
+    (first_record_length octets ≤ length octets) × AreRecords count
+    (drop (first_record_length octets) octets)

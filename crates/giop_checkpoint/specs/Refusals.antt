@@ -8,70 +8,75 @@ use Rattle.giop_checkpoint.specs.declared.fault.LoadFault.{LoadFault}
 use Rattle.giop_checkpoint.specs.declared.fault.LoadFault.TheVariants as faults
 use Rattle.giop_checkpoint.specs.declared.fixed.Counts.{Counts}
 use Rattle.giop_checkpoint.specs.declared.fixed.Fixed.{Fixed}
-use Rattle.giop_checkpoint.specs.Layouts.{version_of, reads}
+use Rattle.giop_checkpoint.specs.Layouts.{version_of, reads_layout}
 use Rattle.giop_checkpoint.specs.Fixed.{HasRange, magic, counts_octets, state_octets}
 use Rattle.giop_checkpoint.specs.Records.{AreRecords}
 
-abbrev pub IsLong : List ℕ → Type 0
-IsLong s = FIXED_SIZE ≤ length s
+abbrev pub HasFixedPart : (octets : List ℕ) → Type 0
+HasFixedPart octets = FIXED_SIZE ≤ length octets
 
-abbrev pub HasMagic : List ℕ → Type 0
-HasMagic s = take 8 s ≡ magic
+abbrev pub HasMagic : (octets : List ℕ) → Type 0
+HasMagic octets = take 8 octets ≡ magic
 
 -- the version belongs to this layout
-abbrev pub IsLaidOut : List ℕ → Layout → Type 0
-IsLaidOut s layout = take 4 (drop 8 s) ≡ four (version_of layout)
+abbrev pub HasLayoutVersion : (octets : List ℕ) (layout : Layout) → Type 0
+HasLayoutVersion octets layout = take 4 (drop 8 octets) ≡ four (version_of layout)
 
 -- the layout is one that is read with a signature file of this version
-abbrev pub HasVersion : ℕ → List ℕ → Type 0
-HasVersion version s = (layout : Layout) × (reads version layout ≡ true) × IsLaidOut s layout
+abbrev pub HasVersion : (version : ℕ) (octets : List ℕ) → Type 0
+HasVersion version octets =
+    (layout : Layout) × (reads_layout version layout ≡ true) × HasLayoutVersion octets layout
 
-abbrev pub HasCounts : Counts → List ℕ → Type 0
-HasCounts c s = take 16 (drop 12 s) ≡ counts_octets c
+abbrev pub HasCounts : (counts : Counts) (octets : List ℕ) → Type 0
+HasCounts c octets = take 16 (drop 12 octets) ≡ counts_octets c
 
 -- these are the checkpoint's fields after the counts, each in its range
 pub record HasState (c : Counts) (f : Fixed) (s : List ℕ) : Type 0 where
   pub layout : Layout
-  pub read : reads c.version layout ≡ true
-  pub laid_out : IsLaidOut s layout
+  pub read : reads_layout c.version layout ≡ true
+  pub laid_out : HasLayoutVersion s layout
   pub counts : f.counts ≡ c
   pub octets : take 68 (drop 28 s) ≡ state_octets layout f
   pub range : HasRange layout f
 
-abbrev pub HasRecords : Fixed → List ℕ → Type 0
-HasRecords f s = AreRecords f.records (drop FIXED_SIZE s)
+abbrev pub HasRecords : (fields : Fixed) (octets : List ℕ) → Type 0
+HasRecords f octets = AreRecords f.records (drop FIXED_SIZE octets)
 
 -- all checks up to the counts pass
-abbrev pub IsOurs : Counts → List ℕ → Type 0
-IsOurs c s = IsLong s × HasMagic s × HasVersion c.version s × HasCounts c s
+abbrev pub PassesUpToCounts : (counts : Counts) (octets : List ℕ) → Type 0
+PassesUpToCounts c octets = HasFixedPart octets × HasMagic octets × HasVersion c.version octets
+    × HasCounts c octets
 
 -- the first check that fails is one up to the counts
-abbrev pub IsNotOurs : Counts → List ℕ → LoadFault → Type 0
-IsNotOurs c s faults.Length = IsLong s → ⊥
-IsNotOurs c s faults.Magic = IsLong s × (HasMagic s → ⊥)
-IsNotOurs c s faults.Version = IsLong s × HasMagic s × (HasVersion c.version s → ⊥)
-IsNotOurs c s faults.Catalogue =
-    IsLong s × HasMagic s × HasVersion c.version s × (HasCounts c s → ⊥)
-IsNotOurs c s faults.State = ⊥
-IsNotOurs c s faults.OutOfMemory = ⊥
+abbrev pub FailsUpToCounts : (counts : Counts) (octets : List ℕ) (fault : LoadFault) → Type 0
+FailsUpToCounts c octets faults.Length = HasFixedPart octets → ⊥
+FailsUpToCounts c octets faults.Magic = HasFixedPart octets × (HasMagic octets → ⊥)
+FailsUpToCounts c octets faults.Version =
+    HasFixedPart octets × HasMagic octets × (HasVersion c.version octets → ⊥)
+FailsUpToCounts c octets faults.Catalogue =
+    HasFixedPart octets × HasMagic octets × HasVersion c.version octets × (HasCounts c octets → ⊥)
+FailsUpToCounts c octets faults.State = ⊥
+FailsUpToCounts c octets faults.OutOfMemory = ⊥
 
 -- the first check after the counts that fails: a field is out of its range, or else the octets
 -- after the fields aren't those of the records
-abbrev pub IsOutOfRange : Counts → List ℕ → LoadFault → Type 0
-IsOutOfRange c s faults.Magic = ⊥
-IsOutOfRange c s faults.Version = ⊥
-IsOutOfRange c s faults.Catalogue = ⊥
-IsOutOfRange c s faults.Length = (f : Fixed) × HasState c f s × (HasRecords f s → ⊥)
-IsOutOfRange c s faults.State = (f : Fixed) → HasState c f s → ⊥
-IsOutOfRange c s faults.OutOfMemory = ⊥
+abbrev pub FailsAfterCounts : (counts : Counts) (octets : List ℕ) (fault : LoadFault) → Type 0
+FailsAfterCounts c octets faults.Magic = ⊥
+FailsAfterCounts c octets faults.Version = ⊥
+FailsAfterCounts c octets faults.Catalogue = ⊥
+FailsAfterCounts c octets faults.Length = (f : Fixed) × HasState c f octets
+    × (HasRecords f octets → ⊥)
+FailsAfterCounts c octets faults.State = (f : Fixed) → HasState c f octets → ⊥
+FailsAfterCounts c octets faults.OutOfMemory = ⊥
 
 -- the first check that fails
-abbrev pub Refused : Counts → List ℕ → LoadFault → Type 0
-Refused c s why = IsNotOurs c s why ⊎ (IsOurs c s × IsOutOfRange c s why)
+abbrev pub IsFirstFailure : (counts : Counts) (octets : List ℕ) (why : LoadFault) → Type 0
+IsFirstFailure c octets why = FailsUpToCounts c octets why
+    ⊎ (PassesUpToCounts c octets × FailsAfterCounts c octets why)
 
 -- All checks pass, with these fields; the records' octets follow.
-pub record Passes (c : Counts) (s : List ℕ) (f : Fixed) (records : List ℕ) : Type 0 where
-  pub ours : IsOurs c s
+pub record PassesAllChecks (c : Counts) (s : List ℕ) (f : Fixed) (records : List ℕ) : Type 0 where
+  pub ours : PassesUpToCounts c s
   pub state : HasState c f s
   pub rest : records ≡ drop FIXED_SIZE s
   pub lengths : AreRecords f.records records

@@ -1,10 +1,10 @@
 //! The checks of a checkpoint, in their order.
 
 ghost use Rattle.std.specs.Prelude.{◌≡◌, ◌↔◌, ℕ, List, ◌++◌, ◌≤◌, true, drop, length, IfOk, IfErr, IsOkAnd, IsTrue};
-ghost use Rattle.giop_checkpoint.specs.Layouts.{reads};
+ghost use Rattle.giop_checkpoint.specs.Layouts.{reads_layout};
 ghost use Rattle.giop_checkpoint.specs.Fixed.{HasRange, counts_octets, fixed_octets};
 ghost use Rattle.giop_checkpoint.specs.Records.{AreRecords};
-ghost use Rattle.giop_checkpoint.specs.Refusals.{IsLaidOut, IsOurs, IsNotOurs, Refused, Passes};
+ghost use Rattle.giop_checkpoint.specs.Refusals.{HasLayoutVersion, PassesUpToCounts, FailsUpToCounts, IsFirstFailure, PassesAllChecks};
 ghost use Rattle.giop_checkpoint.specs.declared.fixed.Fixed.{Fixed as FixedPart};
 ghost use Rattle.giop_checkpoint.specs.declared.layout.Layout.{Layout as LayoutOf};
 
@@ -19,11 +19,11 @@ use arrayvec::ArrayVec;
 /// The layout, and what follows the counts, if the octets up to there are those that are written in
 /// this layout with these counts.
 fn after_counts<'a>(octets: &'a [u8], counts: Counts) -> Result<(Layout, &'a [u8]), LoadFault>
-    ensures ours { IfOk result (λ r. IsOurs counts octets.now) }
-    ensures layout { IfOk result (λ r. IsLaidOut octets.now r.0) }
-    ensures read { IfOk result (λ r. reads counts.version r.0 ≡ true) }
+    ensures ours { IfOk result (λ r. PassesUpToCounts counts octets.now) }
+    ensures layout { IfOk result (λ r. HasLayoutVersion octets.now r.0) }
+    ensures read { IfOk result (λ r. reads_layout counts.version r.0 ≡ true) }
     ensures rest { IfOk result (λ r. r.1.now ≡ drop 28 octets.now) }
-    ensures refused { IfErr result (λ why. IsNotOurs counts octets.now why) }
+    ensures refused { IfErr result (λ why. FailsUpToCounts counts octets.now why) }
 {
     if octets.len() < FIXED_SIZE {
         return Err(LoadFault::Length);
@@ -33,11 +33,11 @@ fn after_counts<'a>(octets: &'a [u8], counts: Counts) -> Result<(Layout, &'a [u8
         return Err(LoadFault::Magic);
     }
     let (version, behind) = behind.split_at(4);
-    let Some(layout) = Layout::read(version, counts.version) else {
+    let Some(layout) = Layout::of_if_read(version, counts.version) else {
         return Err(LoadFault::Version);
     };
     let (read_with, behind) = behind.split_at(16);
-    if !counts.are(read_with) {
+    if !counts.are_written_in(read_with) {
         return Err(LoadFault::Catalogue);
     }
     Ok((layout, behind))
@@ -46,11 +46,12 @@ fn after_counts<'a>(octets: &'a [u8], counts: Counts) -> Result<(Layout, &'a [u8
 /// The fixed part of a checkpoint, and the octets of its records; no record is cut short. `counts`
 /// are those of the catalogue and the request list with which it is read.
 pub fn fixed_part<'a>(octets: &'a [u8], counts: Counts) -> Result<(Fixed, &'a [u8]), LoadFault>
-    ensures passes { IfOk result (λ r. Passes counts octets.now r.0 r.1.now) }
-    ensures refused { IfErr result (λ why. Refused counts octets.now why) }
+    ensures passes { IfOk result (λ r. PassesAllChecks counts octets.now r.0 r.1.now) }
+    ensures refused { IfErr result (λ why. IsFirstFailure counts octets.now why) }
     // If a layout is read, what is written in it is read.
     ensures again { (layout : LayoutOf) (f : FixedPart) (records : List ℕ) → f.counts ≡ counts →
-        reads counts.version layout ≡ true → HasRange layout f → AreRecords f.records records →
+        reads_layout counts.version layout ≡ true → HasRange layout f → AreRecords f.records records
+        →
         octets.now ≡ fixed_octets layout f ++ records → IsOkAnd result (λ r. (r.0 ≡ f)
         × (r.1.now ≡ records)) }
 {
@@ -70,7 +71,7 @@ pub fn fixed_part<'a>(octets: &'a [u8], counts: Counts) -> Result<(Fixed, &'a [u
 
 impl Counts {
     /// Whether the octets are those of these counts.
-    fn are(&self, octets: &[u8]) -> bool
+    fn are_written_in(&self, octets: &[u8]) -> bool
         ensures { IsTrue result ↔ (octets.now ≡ counts_octets self.now) }
     {
         let mut own: ArrayVec<u8, 16> = ArrayVec::new();

@@ -120,7 +120,7 @@ impl NextOctet {
                 put_eight(out, u64::from(*left));
             }
             NextOctet::Stopped(fault) => {
-                put_octets(out, &[2, number_of(*fault), 0, owner]);
+                put_octets(out, &[2, fault_octet(*fault), 0, owner]);
                 put_zeros(out, 12);
                 put_eight(out, 0);
             }
@@ -137,7 +137,7 @@ pub fn magic() -> [u8; 8]
 }
 
 /// The octet of a stream fault: its number.
-fn number_of(fault: StreamFault) -> u8
+fn fault_octet(fault: StreamFault) -> u8
     ensures { result ≡ fault_octet fault }
 {
     match fault {

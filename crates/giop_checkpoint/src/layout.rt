@@ -3,7 +3,7 @@
 ghost use Rattle.std.specs.Prelude.{◌≡◌, ◌↔◌, ◌+◌, ◌≤◌, ◌++◌, ℕ, true, Option, Some, IsTrue};
 ghost use Rattle.arrayvec.specs.ArrayVec.{array_vec_len};
 ghost use Rattle.giop_octets.specs.Fields.{four};
-ghost use Rattle.giop_checkpoint.specs.Layouts.{OpenHasRange, OwnerFits, MixedFits, version_of, layout_of, reads, owner_octet, mixed_octet, limit_octets};
+ghost use Rattle.giop_checkpoint.specs.Layouts.{OpenHasRange, OwnerFits, MixedFits, version_of, layout_of, reads_layout, owner_octet, mixed_octet, limit_octets};
 ghost use Rattle.giop_checkpoint.specs.declared.layout.Layout.{Layout as LayoutOf};
 
 use crate::sizes::{LAYOUT_2_MOST_OPEN, MOST_OPEN};
@@ -56,9 +56,9 @@ impl Layout {
     }
 
     /// The layout of the version with these octets, if it is read with a signature file of this version.
-    pub(crate) fn read(octets: &[u8], version: u8) -> Option<Layout>
+    pub(crate) fn of_if_read(octets: &[u8], version: u8) -> Option<Layout>
         ensures { (layout : LayoutOf) → (result ≡ Some layout)
-            ↔ ((octets.now ≡ four (version_of layout)) × (reads version layout ≡ true)) }
+            ↔ ((octets.now ≡ four (version_of layout)) × (reads_layout version layout ≡ true)) }
     {
         let layout = Layout::of(octets)?;
         if layout.is_read(version) {
@@ -70,7 +70,7 @@ impl Layout {
 
     /// Whether checkpoints in this layout are read with a signature file of this version.
     fn is_read(self, version: u8) -> bool
-        ensures { result ≡ reads version self }
+        ensures { result ≡ reads_layout version self }
     {
         match self {
             Layout::Second | Layout::Third => version < 3,
@@ -91,7 +91,7 @@ impl Layout {
     }
 
     /// Whether this many messages may be open at once in this layout.
-    pub(crate) fn allows(self, most_open: u32) -> bool
+    pub(crate) fn allows_most_open(self, most_open: u32) -> bool
         ensures { IsTrue result ↔ OpenHasRange self most_open }
     {
         match self {

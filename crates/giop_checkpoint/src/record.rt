@@ -2,7 +2,7 @@
 
 ghost use Rattle.std.specs.Prelude.{◌≡◌, ◌↔◌, ℕ, List, ◌+◌, ◌*◌, ◌≤◌, ◌++◌, length, take, drop, Option, Some, IfSome, IsSomeAnd, IsTrue};
 ghost use Rattle.arrayvec.specs.ArrayVec.{array_vec_len};
-ghost use Rattle.giop_checkpoint.specs.Records.{Entry, EntryHasRange, IsTyped, RecordHasRange, RecordKindHasRange, AreRecords, used, kind_octets, own_octets, entry_octets, record_kind_octet, id_of};
+ghost use Rattle.giop_checkpoint.specs.Records.{StoredRecord, StoredRecordHasRange, HasTypeRanges, RecordHasRange, RecordKindHasRange, AreRecords, first_record_length, kind_octets, own_octets, stored_record_octets, record_kind_octet, request_id_or_0};
 ghost use Rattle.giop_checkpoint.specs.declared.record.Record.{Record as RecordOf};
 ghost use Rattle.giop_checkpoint.specs.declared.record.RecordKind.{RecordKind as StandingOf};
 
@@ -55,7 +55,7 @@ impl RecordKind {
 
     /// The request id, or 0 if the message isn't open under one.
     fn id(self) -> u32
-        ensures { result ≡ id_of self }
+        ensures { result ≡ request_id_or_0 self }
     {
         match self {
             RecordKind::Current | RecordKind::OpenWithoutId | RecordKind::OverWithoutId => 0,
@@ -80,7 +80,7 @@ impl Record {
     pub fn write<const N: usize>(&self, out: &mut ArrayVec<u8, N>)
         requires room { array_vec_len out.old + 32 ≤ N }
         ensures put { out.new.items ≡ out.old.items ++ own_octets self.now }
-        ensures typed { IsTyped self.now }
+        ensures typed { HasTypeRanges self.now }
         ensures len { array_vec_len out.new ≡ array_vec_len out.old + 32 }
     {
         self.write_kind(out);
@@ -104,16 +104,17 @@ pub struct FirstRecord<'a> {
 
 /// The first of these records, if each field is in its range, and unused octets are zero.
 pub fn first_record<'a>(octets: &'a [u8]) -> Option<FirstRecord<'a>>
-    requires whole { used octets.now ≤ length octets.now }
+    requires whole { first_record_length octets.now ≤ length octets.now }
     ensures own { IfSome result (λ first. take 32 octets.now ≡ own_octets first.record) }
     ensures range { IfSome result (λ first. RecordHasRange first.record) }
     ensures message { IfSome result (λ first. first.message ≡ take 224 (drop 32 octets.now)) }
     ensures len { IfSome result (λ first.
         length first.frames.now ≡ FRAME_SIZE * first.record.frames) }
-    ensures rest { IfSome result (λ first. first.rest.now ≡ drop (used octets.now) octets.now) }
+    ensures rest { IfSome result (λ first. first.rest.now ≡ drop
+        (first_record_length octets.now) octets.now) }
     // If a record was written, it is read.
-    ensures again { (e : Entry) (rest : List ℕ) → EntryHasRange e →
-        octets.now ≡ entry_octets e ++ rest →
+    ensures again { (e : StoredRecord) (rest : List ℕ) → StoredRecordHasRange e →
+        octets.now ≡ stored_record_octets e ++ rest →
         IsSomeAnd result (λ first. (first.record ≡ e.record_is) × (first.message ≡ e.message)
         × (first.frames.now ≡ e.frames) × (first.rest.now ≡ rest)) }
 {
@@ -125,14 +126,14 @@ pub fn first_record<'a>(octets: &'a [u8]) -> Option<FirstRecord<'a>>
     let (frames, rest) = behind.split_at(FRAME_SIZE * record.frames as usize);
     Some(FirstRecord {
         record,
-        message: whole_message(message),
+        message: message_array(message),
         frames,
         rest,
     })
 }
 
 /// The octets of a message, as an array.
-fn whole_message(octets: &[u8]) -> [u8; 224]
+fn message_array(octets: &[u8]) -> [u8; 224]
     requires { length octets.now ≡ 224 }
     ensures { result ≡ octets.now }
 {
@@ -150,7 +151,7 @@ fn record_at(octets: &[u8]) -> Option<Record>
     ensures again { (r : RecordOf) → RecordHasRange r → octets.now ≡ own_octets r →
         result ≡ Some r }
 {
-    let Some(record) = parsed(octets) else {
+    let Some(record) = unchecked_record(octets) else {
         return None;
     };
     if record.frames > MOST_FRAMES {
@@ -165,7 +166,7 @@ fn record_at(octets: &[u8]) -> Option<Record>
 }
 
 /// The record that octets give. Unused octets aren't checked.
-fn parsed(octets: &[u8]) -> Option<Record>
+fn unchecked_record(octets: &[u8]) -> Option<Record>
     requires long { length octets.now ≡ 32 }
     ensures range { IfSome result (λ r. RecordKindHasRange r.record_kind) }
     ensures again { (r : RecordOf) → RecordHasRange r → octets.now ≡ own_octets r →
@@ -185,7 +186,7 @@ fn parsed(octets: &[u8]) -> Option<Record>
 /// The kind of a record, from its octet and its request id.
 fn record_kind_of(octet: u8, id: u32) -> Option<RecordKind>
     ensures range { IfSome result (λ s. RecordKindHasRange s) }
-    ensures again { (s : StandingOf) → octet ≡ record_kind_octet s → id ≡ id_of s →
+    ensures again { (s : StandingOf) → octet ≡ record_kind_octet s → id ≡ request_id_or_0 s →
         result ≡ Some s }
 {
     match octet {
@@ -208,10 +209,10 @@ pub fn are_records(records: u32, octets: &[u8]) -> bool
     if octets.is_empty() {
         return false;
     }
-    let used = RECORD_SIZE + FRAME_SIZE * octets[0] as usize;
-    if octets.len() < used {
+    let first_record_length = RECORD_SIZE + FRAME_SIZE * octets[0] as usize;
+    if octets.len() < first_record_length {
         return false;
     }
-    let (_, rest) = octets.split_at(used);
+    let (_, rest) = octets.split_at(first_record_length);
     are_records(records - 1, rest)
 }

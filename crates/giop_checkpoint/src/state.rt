@@ -1,8 +1,8 @@
 //! Reads the fields of the fixed part that follow the counts.
 
 ghost use Rattle.std.specs.Prelude.{◌≡◌, ◌↔◌, ℕ, Bool, List, ◌+◌, ◌≤◌, ◌++◌, length, Option, Some, IfSome, IsTrue};
-ghost use Rattle.giop_checkpoint.specs.Layouts.{OpenHasRange, IsAmong, MixedFits, number_or, owner_octet, limit_octets};
-ghost use Rattle.giop_checkpoint.specs.Fixed.{HasRange, PlaceHasRange, fault_octet, place_octets, place_octet, fault_in, held_in, header_in, left_in, state_octets};
+ghost use Rattle.giop_checkpoint.specs.Layouts.{OpenHasRange, IsAmongRecords, MixedFits, record_number_or, owner_octet, limit_octets};
+ghost use Rattle.giop_checkpoint.specs.Fixed.{HasRange, PlaceHasRange, fault_octet, place_octets, place_octet, place_fault_octet, place_held_count, place_header_octets, place_octets_left, state_octets};
 ghost use Rattle.giop_checkpoint.specs.declared.fixed.Fixed.{Fixed as FixedPart};
 ghost use Rattle.giop_checkpoint.specs.declared.fixed.NextOctet.{NextOctet as PlaceOf};
 ghost use Rattle.giop_checkpoint.specs.declared.fault.StreamFault.{StreamFault as Fault};
@@ -25,7 +25,7 @@ pub fn state_at(layout: Layout, counts: Counts, octets: &[u8]) -> Option<Fixed>
     ensures again { (f : FixedPart) → f.counts ≡ counts → HasRange layout f →
         octets.now ≡ state_octets layout f → result ≡ Some f }
 {
-    let Some(fixed) = parsed(layout, counts, octets) else {
+    let Some(fixed) = unchecked_state(layout, counts, octets) else {
         return None;
     };
     if !fixed.is_in_range(layout) {
@@ -40,7 +40,7 @@ pub fn state_at(layout: Layout, counts: Counts, octets: &[u8]) -> Option<Fixed>
 }
 
 /// The fixed part that octets give. Unused octets and the ranges aren't checked.
-fn parsed(layout: Layout, counts: Counts, octets: &[u8]) -> Option<Fixed>
+fn unchecked_state(layout: Layout, counts: Counts, octets: &[u8]) -> Option<Fixed>
     requires long { length octets.now ≡ 68 }
     ensures counts { IfSome result (λ f. f.counts ≡ counts) }
     ensures place { IfSome result (λ f. PlaceHasRange f.place) }
@@ -54,14 +54,14 @@ fn parsed(layout: Layout, counts: Counts, octets: &[u8]) -> Option<Fixed>
     };
     Some(Fixed {
         counts,
-        most_open: open_at(layout, limits),
+        most_open: most_open_at(layout, limits),
         records: four_at(octets, 0),
         octets: eight_at(octets, 4),
         messages: eight_at(octets, 12),
         faults: eight_at(octets, 20),
         place,
         owner: owner_at(layout, octet_at(octets, 31), limits),
-        is_mixed: mixed_at(limits),
+        is_mixed: is_mixed_at(limits),
     })
 }
 
@@ -85,12 +85,13 @@ fn place_at(octets: &[u8]) -> Option<NextOctet>
 fn place_of(kind: u8, fault: u8, held: u8, header: [u8; 12], left: u64) -> Option<NextOctet>
     ensures range { IfSome result (λ place. PlaceHasRange place) }
     ensures again { (place : PlaceOf) → PlaceHasRange place → kind ≡ place_octet place →
-        fault ≡ fault_in place →
-        held ≡ held_in place → header ≡ header_in place → left ≡ left_in place →
+        fault ≡ place_fault_octet place →
+        held ≡ place_held_count place → header ≡ place_header_octets place → left
+        ≡ place_octets_left place →
         result ≡ Some place }
 {
     match kind {
-        0 => Some(NextOctet::Header(front_of(&header, held))),
+        0 => Some(NextOctet::Header(held_header_octets(&header, held))),
         1 => match u32::try_from(left) {
             Ok(left) => Some(NextOctet::Payload { header, left }),
             Err(_) => None,
@@ -104,7 +105,7 @@ fn place_of(kind: u8, fault: u8, held: u8, header: [u8; 12], left: u64) -> Optio
 }
 
 /// The header octets that are held: the first `count` of these.
-fn front_of(header: &[u8; 12], count: u8) -> ArrayVec<u8, 11>
+fn held_header_octets(header: &[u8; 12], count: u8) -> ArrayVec<u8, 11>
     ensures few { length result.items ≤ 11 }
     ensures again { (held rest : List ℕ) → length held ≤ 11 → length held ≡ count →
         header.now ≡ held ++ rest → result.items ≡ held }
@@ -131,7 +132,7 @@ fn fault_of(number: u8) -> Option<StreamFault>
 }
 
 /// How many messages may be open at once, from the octets after the place.
-fn open_at(layout: Layout, octets: &[u8]) -> u32
+fn most_open_at(layout: Layout, octets: &[u8]) -> u32
     requires long { length octets.now ≡ 16 }
     ensures { (n : ℕ) (owner : Option ℕ) (is_mixed : Bool) → OpenHasRange layout n →
         octets.now ≡ limit_octets layout n owner is_mixed → result ≡ n }
@@ -146,17 +147,17 @@ fn open_at(layout: Layout, octets: &[u8]) -> u32
 fn owner_at(layout: Layout, octet: u8, octets: &[u8]) -> Option<u32>
     requires long { length octets.now ≡ 16 }
     ensures { (n : ℕ) (owner : Option ℕ) (is_mixed : Bool) → OpenHasRange layout n →
-        IsAmong (n + 1) owner → octet ≡ owner_octet layout owner →
+        IsAmongRecords (n + 1) owner → octet ≡ owner_octet layout owner →
         octets.now ≡ limit_octets layout n owner is_mixed → result ≡ owner }
 {
     match layout {
-        Layout::Second => owner_of(u32::from(octet), 255),
-        Layout::Third | Layout::Latest => owner_of(four_at(octets, 4), 4_294_967_295),
+        Layout::Second => record_unless_nobody(u32::from(octet), 255),
+        Layout::Third | Layout::Latest => record_unless_nobody(four_at(octets, 4), 4_294_967_295),
     }
 }
 
 /// Whether messages of GIOP 1.1 are mixed, from the octets after the place.
-fn mixed_at(octets: &[u8]) -> bool
+fn is_mixed_at(octets: &[u8]) -> bool
     requires long { length octets.now ≡ 16 }
     ensures { (layout : LayoutOf) (n : ℕ) (owner : Option ℕ) (is_mixed : Bool) →
         MixedFits layout is_mixed → octets.now ≡ limit_octets layout n owner is_mixed →
@@ -166,8 +167,9 @@ fn mixed_at(octets: &[u8]) -> bool
 }
 
 /// The record that a number names. The number `nobody` names none.
-fn owner_of(number: u32, nobody: u32) -> Option<u32>
-    ensures { (owner : Option ℕ) → IsAmong nobody owner → number ≡ number_or nobody owner →
+fn record_unless_nobody(number: u32, nobody: u32) -> Option<u32>
+    ensures { (owner : Option ℕ) → IsAmongRecords nobody owner → number
+        ≡ record_number_or nobody owner →
         result ≡ owner }
 {
     if number == nobody { None } else { Some(number) }
@@ -186,19 +188,19 @@ impl Fixed {
         requires { PlaceHasRange self.now.place }
         ensures { IsTrue result ↔ HasRange layout self.now }
     {
-        layout.allows(self.most_open)
+        layout.allows_most_open(self.most_open)
             && u64::from(self.records) <= u64::from(self.most_open) + 1
             && self.octets <= (1 << 48) + 1
             && self.messages <= 1 << 45
             && self.faults <= (1 << 45) + 1
-            && is_among(self.records, self.owner)
+            && is_among_records(self.records, self.owner)
             && layout.allows_mixed(self.is_mixed)
     }
 }
 
 /// Whether the record that is named is one of the records. If none is named, this is true.
-fn is_among(records: u32, owner: Option<u32>) -> bool
-    ensures { IsTrue result ↔ IsAmong records owner }
+fn is_among_records(records: u32, owner: Option<u32>) -> bool
+    ensures { IsTrue result ↔ IsAmongRecords records owner }
 {
     match owner {
         Some(record) => record < records,

@@ -15,13 +15,13 @@ use Rattle.giop_conversation.specs.declared.conversation.Conversation.{Conversat
 use Rattle.giop_conversation.specs.Tags.{tagged, with_tags, stream_tag}
 use Rattle.giop_conversation.specs.TaggedState.{Tagging, WroteTaggedFront}
 use Rattle.giop_conversation.specs.Lines.{closed_line}
-use Rattle.giop_conversation.specs.Stamped.{stamped, exchanged}
-use Rattle.giop_conversation.specs.Exchanges.{Exchanged, answer_of, notified}
+use Rattle.giop_conversation.specs.Stamped.{stamped, after_octets}
+use Rattle.giop_conversation.specs.Exchanges.{ExchangeView, answer_of, notified}
 use Rattle.giop_conversation.specs.Directions.{DirectionView}
-use Rattle.giop_conversation.specs.StreamReads.{AgreeWith, IsSetAlike, HasStood, WritesTagged, reading_in}
+use Rattle.giop_conversation.specs.StreamReads.{AgreeWith, HasSameSetup, ReadAndWroteBelow, WritesTagged, exchange_for_reading}
 use Rattle.giop_conversation.specs.Followed.{other, direction}
-use Rattle.giop_conversation.specs.Captured.{Setup, Half, Connection, Dump, Step, Leads, half, calls_in, rules_in, calls_behind, delivered, IsAnswered}
-use Rattle.giop_conversation.specs.DumpHeld.{HoldsHalf, HasCalls, HoldsConnection, ReadsBy, AreHeld}
+use Rattle.giop_conversation.specs.Captured.{Setup, Half, Connection, Dump, Step, Leads, half, calls_in, rules_in, calls_after_octets, octets_delivered, AnswersAreOfCalls}
+use Rattle.giop_conversation.specs.DumpHeld.{HoldsHalf, HasCalls, HoldsConnection, HasReadFlow, AreHeld}
 
 -- ---- one event more
 
@@ -86,9 +86,9 @@ holds_by S Odd r c here own opposite calls = search (arith)
 
 -- the calls when a stream of a flow is read
 pub reading_is : (S : Setup) (side : Side) (arrival : Arrival) (c : Connection)
-    (d : DirectionView) (s : Exchanged) →
+    (d : DirectionView) (s : ExchangeView) →
     HoldsHalf S d (half side c) → HasCalls side s c →
-    reading_in d.engine d.stream arrival s ≡ calls_in S side arrival c
+    exchange_for_reading d.engine d.stream arrival s ≡ calls_in S side arrival c
 reading_is S side arrival c d s h k = search (arith)
 
 -- ---- lines without a tag
@@ -127,24 +127,25 @@ delivered_holds : (S : Setup) (side : Side) (k : Connection) (a : Answers) (octe
     (direction side new).is_live ≡ (half side k).is_live →
     (direction side new).flow ≡ (half side k).flow →
     HoldsHalf S (direction (other side) new) (half (other side) k) →
-    new.exchange ≡ calls_behind S a side octets arrival k →
-    HoldsConnection S new (delivered S a side octets arrival k)
+    new.exchange ≡ calls_after_octets S a side octets arrival k →
+    HoldsConnection S new (octets_delivered S a side octets arrival k)
 delivered_holds S Even k a octets arrival new is holds table most stream live flow opposite calls =
     search (arith)
 delivered_holds S Odd k a octets arrival new is holds table most stream live flow opposite calls =
     search (arith)
 
 -- what is known of the answers of a stream before octets of it are read
-pub record GoesOn (S : Setup) (k : Connection) (side : Side) (octets : List ℕ)
+pub record KnownBeforeOctets (S : Setup) (k : Connection) (side : Side) (octets : List ℕ)
     (arrival : Arrival) (d : DirectionView)
-    (t : Exchanged) (a : Answers) : Type 0 where
-  pub answered : IsAnswered S a side octets arrival k
+    (t : ExchangeView) (a : Answers) : Type 0 where
+  pub answered : AnswersAreOfCalls S a side octets arrival k
   pub holds : HoldsBy d.engine a (half side k).octets
-  pub agrees : AgreeWith d.engine a (reading_in d.engine d.stream arrival t) (half side k).octets
+  pub agrees : AgreeWith d.engine a (exchange_for_reading d.engine d.stream arrival t)
+      (half side k).octets
       octets
 
 pub goes_on_by : (S : Setup) (k : Connection) (side : Side) (octets : List ℕ)
-    (arrival : Arrival) (d : DirectionView) (t : Exchanged)
+    (arrival : Arrival) (d : DirectionView) (t : ExchangeView)
     (a : Answers) → HoldsHalf S d (half side k) → HasCalls side t k →
     (AnswersAgree d.engine.table d.engine.most (half side k).octets (half side k).answers a →
     HoldsBy d.engine (half side k).answers (half side k).octets →
@@ -152,7 +153,7 @@ pub goes_on_by : (S : Setup) (k : Connection) (side : Side) (octets : List ℕ)
     AnswersAgree S.table S.messages (half side k).octets (half side k).answers a →
     AgreesAtEnds answer_of notified S.table (calls_in S side arrival k) a
     (header_ends_from (rules_in S a) (half side k).octets octets) →
-    GoesOn S k side octets arrival d t a
+    KnownBeforeOctets S k side octets arrival d t a
 goes_on_by S k side octets arrival d t a h calls held before now = search (
   arith,
   reading_is,
@@ -161,23 +162,25 @@ goes_on_by S k side octets arrival d t a h calls held before now = search (
 
 pub reads_by : {A E : Type 0} (r : Result A E) (S : Setup) (k : Connection) (side : Side)
     (octets : List ℕ) (arrival : Arrival)
-    (w : List ℕ) (new : Conversation) (out : Tagging) (d : DirectionView) (t : Exchanged)
+    (w : List ℕ) (new : Conversation) (out : Tagging) (d : DirectionView) (t : ExchangeView)
     (a : Answers) →
-    HoldsHalf S d (half side k) → HasCalls side t k → GoesOn S k side octets arrival d t a →
+    HoldsHalf S d (half side k) → HasCalls side t k → KnownBeforeOctets S k side octets arrival d t
+    a →
     new.side ≡ side →
-    IsSetAlike (direction side new).engine d.engine → (direction side new).stream ≡ d.stream →
+    HasSameSetup (direction side new).engine d.engine → (direction side new).stream ≡ d.stream →
     (direction side new).is_live ≡ d.is_live →
     (direction side new).flow ≡ d.flow →
     HoldsHalf S (direction (other side) new) (half (other side) k) →
     MatchResult r
-    (λ _. HasStood (direction side new).engine a ((half side k).octets ++ octets) out
+    (λ _. ReadAndWroteBelow (direction side new).engine a ((half side k).octets ++ octets) out
     (w ++ with_tags (stream_tag d.stream) (stamped (rules_with d.engine a)
-    (reading_in d.engine d.stream arrival t) (half side k).octets octets))
-    new.exchange (exchanged (rules_with d.engine a) (reading_in d.engine d.stream arrival t)
+    (exchange_for_reading d.engine d.stream arrival t) (half side k).octets octets))
+    new.exchange (after_octets (rules_with d.engine a) (exchange_for_reading d.engine d.stream
+    arrival t)
     (half side k).octets octets))
     (λ _. WroteTaggedFront out w (stream_tag d.stream)
-    (stamped (rules_with d.engine a) (reading_in d.engine d.stream arrival t)
+    (stamped (rules_with d.engine a) (exchange_for_reading d.engine d.stream arrival t)
     (half side k).octets octets)) →
-    ReadsBy S k side octets arrival w r new out
+    HasReadFlow S k side octets arrival w r new out
 reads_by r S k side octets arrival w new out d t a h calls on is alike stream live flow opposite
     reads = search (arith, reading_is, rules_are, delivered_holds)

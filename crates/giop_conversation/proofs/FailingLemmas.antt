@@ -2,12 +2,12 @@
 use Rattle.std.proofs.Common.{◌≡◌, ℕ, zero, suc, ◌<◌, true, false, List, Result, Ok, Err, refl, ◌∙◌, arith}
 use Rattle.std.proofs.lemmas.Bool.{false≢true}
 use Rattle.std.specs.Prelude.{OnOk, OnErr}
-use Rattle.giop_print.specs.Output.{OutLog, counted}
+use Rattle.giop_print.specs.Output.{OutLog, saturating_next}
 use Rattle.giop_stream.specs.declared.fault.Stop.{Stop}
 use Rattle.giop_stream.specs.declared.fault.Stop.TheVariants as stop
 use Rattle.giop_print.specs.Output.{Writes}
 use Rattle.giop_conversation.specs.TaggedState.{Tagging, tagging_log}
-use Rattle.giop_conversation.specs.Failing.{Counts, FailsByPut, FailsOnce}
+use Rattle.giop_conversation.specs.Failing.{CountsFailure, FailsByPut, FailsIfPutFailed}
 use Rattle.giop_conversation.proofs.FailingBelow.{counted_more, some_failed}
 use Rattle.giop_stream.specs.EngineView.{EngineView}
 use Rattle.giop_stream.specs.EngineHolds.{StopWrites, Leaves}
@@ -15,7 +15,7 @@ use Rattle.giop_stream.specs.EngineHolds.{StopWrites, Leaves}
 -- if an engine had not failed and stops, a put has failed
 pub stop_counts : (A : Type 0) (why : Stop) (before after : OutLog) (due : List ℕ)
     (e e' : EngineView) → e.failed ≡ false → Leaves {A = A} (Err why) e e' →
-    StopWrites {A = A} (Err why) before after due → after.failures ≡ counted before.failures
+    StopWrites {A = A} (Err why) before after due → after.failures ≡ saturating_next before.failures
 stop_counts A (stop.Out f) before after due e e' sound leaves writes = writes.failures
 stop_counts A stop.Failed before after due e e' sound leaves writes = search (arith, false≢true)
 
@@ -23,7 +23,7 @@ stop_counts A stop.Failed before after due e e' sound leaves writes = search (ar
 pub closing_counts : (A : Type 0) (why : Stop) (before after : OutLog) (due : List ℕ)
     (e : EngineView) → e.failed ≡ false →
     ((let failed : Result A Stop = Err stop.Failed in Err why ≡ failed) → e.failed ≡ true) →
-    StopWrites {A = A} (Err why) before after due → after.failures ≡ counted before.failures
+    StopWrites {A = A} (Err why) before after due → after.failures ≡ saturating_next before.failures
 closing_counts A (stop.Out f) before after due e sound only writes = writes.failures
 closing_counts A stop.Failed before after due e sound only writes = search (arith, false≢true)
 
@@ -35,7 +35,7 @@ by_writes (Err e) before after due writes = writes.failures
 
 -- the same if no put had failed before
 pub once : {A E : Type 0} (r : Result A E) (before after : Tagging) → before.failures ≡ 0 →
-    FailsByPut r before after → FailsOnce r after
+    FailsByPut r before after → FailsIfPutFailed r after
 once (Ok x) before after none fails = fails ∙ none
 once (Err e) before after none fails = search (arith, counted_more)
 
@@ -44,12 +44,13 @@ none_failed zero h = refl
 none_failed (suc n) h = search (arith, false≢true)
 
 -- if the call doesn't fail, the count of failures stays
-pub same_on_ok : {A E : Type 0} (r : Result A E) (before after : ℕ) → Counts r before after →
+pub same_on_ok : {A E : Type 0} (r : Result A E) (before after : ℕ) → CountsFailure r before after →
     OnOk r (after ≡ before)
 same_on_ok (Ok x) before after counts = counts
 same_on_ok (Err e) before after counts = tt
 
-pub some_on_err : {A E : Type 0} (r : Result A E) (before after : ℕ) → Counts r before after →
+pub some_on_err : {A E : Type 0} (r : Result A E) (before after : ℕ) → CountsFailure r before after
+    →
     OnErr r (0 < after)
 some_on_err (Ok x) before after counts = tt
 some_on_err (Err e) before after counts = some_failed before after counts

@@ -10,7 +10,7 @@ use Rattle.tcp_flow.specs.Flow.{Event, Opens, Begins, Delivers, Closes, OfCaptur
 use Rattle.tcp_flow.specs.declared.flow.Start.{Start}
 use Rattle.tcp_flow.specs.declared.flow.CloseCause.{CloseCause}
 use Rattle.tcp_segment.specs.declared.endpoint.Flow.{Flow}
-use Rattle.giop_conversation.specs.Followed.{octets_behind, octets_from, octets_of, fault_at, last_fault_at, reader_faulted, reader_lacking, side_of, other, direction, HaveFollowed}
+use Rattle.giop_conversation.specs.Followed.{octets_after_event, octets_after_events, stream_octets_of, fault_at, last_fault_at, reader_faulted, reader_lacking, side_of, other, direction, HaveFollowed}
 use Rattle.giop_conversation.specs.Directions.{DirectionView, HasRead, fault_place}
 use Rattle.giop_stream.specs.Framing.{cut, lacking}
 use Rattle.giop_conversation.specs.declared.conversation.Side.{Side}
@@ -18,10 +18,11 @@ use Rattle.giop_conversation.specs.declared.conversation.Side.TheVariants.{Even,
 use Rattle.giop_conversation.specs.declared.conversation.Conversation.{Conversation}
 
 octets_more : (flow : ℕ) (p : List ℕ) (events : List Event) (e : Event) →
-    octets_from flow p (events ++ e ∷ []) ≡ octets_behind flow (octets_from flow p events) e
-unfolding octets_from
+    octets_after_events flow p (events ++ e ∷ []) ≡ octets_after_event flow (octets_after_events
+    flow p events) e
+unfolding octets_after_events
 octets_more flow p [] e = refl
-octets_more flow p (e' ∷ es) e = octets_more flow (octets_behind flow p e') es e
+octets_more flow p (e' ∷ es) e = octets_more flow (octets_after_event flow p e') es e
 
 last_more : (all events : List Event) (e : Event) →
     last_fault_at all (events ++ e ∷ []) ≡ fault_at all e
@@ -70,16 +71,16 @@ elsewhere xs i j y apart =
     ]
 
 -- the event changes no other flow's stream
-abbrev pub IsOfFlow : ℕ → Event → Type 0
-IsOfFlow flow e = (g : ℕ) (p : List ℕ) → (g ≡ flow → ⊥) → octets_behind g p e ≡ p
+abbrev pub IsOfFlow : (flow : ℕ) (e : Event) → Type 0
+IsOfFlow flow e = (g : ℕ) (p : List ℕ) → (g ≡ flow → ⊥) → octets_after_event g p e ≡ p
 
 -- if the direction of the event's flow follows it, all directions do
 pub followed_on : (slots : List Conversation) (events : List Event) (e : Event) (flow : ℕ)
     (old new : Conversation) → HaveFollowed slots events → slice_get slots (flow / 2) ≡ Some old →
     IsOfFlow flow e →
-    (HasRead (direction (side_of flow) old).engine (octets_of flow events) →
+    (HasRead (direction (side_of flow) old).engine (stream_octets_of flow events) →
     HasRead (direction (side_of flow) new).engine
-    (octets_behind flow (octets_of flow events) e)) →
+    (octets_after_event flow (stream_octets_of flow events) e)) →
     (direction (other (side_of flow)) new).engine
     ≡ (direction (other (side_of flow)) old).engine →
     HaveFollowed (set slots (flow / 2) new) (events ++ e ∷ [])
@@ -96,7 +97,7 @@ followed_on slots events e flow old new follows here only reads stays g = search
 
 -- the same for an event that is of no flow's stream
 pub followed_still : (slots : List Conversation) (events : List Event) (e : Event) →
-    HaveFollowed slots events → ((g : ℕ) (p : List ℕ) → octets_behind g p e ≡ p) →
+    HaveFollowed slots events → ((g : ℕ) (p : List ℕ) → octets_after_event g p e ≡ p) →
     HaveFollowed slots (events ++ e ∷ [])
 followed_still slots events e follows none g = search (arith, octets_more)
 
@@ -112,46 +113,46 @@ apart_false : (a b : ℕ) → (b ≡ a → ⊥) → (a == b) ≡ false
 apart_false a b apart = search (arith, eqb-true)
 
 pub of_begins : (flow : ℕ) (start : Start) → IsOfFlow flow (Begins flow start)
-unfolding octets_behind
+unfolding octets_after_event
 of_begins flow start g p apart = search (arith, apart_false)
 
 pub of_delivers : (flow : ℕ) (octets : List ℕ) → IsOfFlow flow (Delivers flow octets)
-unfolding octets_behind
+unfolding octets_after_event
 of_delivers flow octets g p apart = search (arith, apart_false)
 
 pub behind_begins : (flow : ℕ) (start : Start) (p : List ℕ) →
-    octets_behind flow p (Begins flow start) ≡ []
-unfolding octets_behind
+    octets_after_event flow p (Begins flow start) ≡ []
+unfolding octets_after_event
 behind_begins flow start p = search (arith, eq-eqb)
 
 pub behind_delivers : (flow : ℕ) (octets p : List ℕ) →
-    octets_behind flow p (Delivers flow octets) ≡ p ++ octets
-unfolding octets_behind
+    octets_after_event flow p (Delivers flow octets) ≡ p ++ octets
+unfolding octets_after_event
 behind_delivers flow octets p = search (arith, eq-eqb)
 
 pub none_of_opens : (flow : ℕ) (endpoints : Flow) (g : ℕ) (p : List ℕ) →
-    octets_behind g p (Opens flow endpoints) ≡ p
-unfolding octets_behind
+    octets_after_event g p (Opens flow endpoints) ≡ p
+unfolding octets_after_event
 none_of_opens flow endpoints g p = refl
 
 pub none_of_closes : (flow : ℕ) (cause : CloseCause) (g : ℕ) (p : List ℕ) →
-    octets_behind g p (Closes flow cause) ≡ p
-unfolding octets_behind
+    octets_after_event g p (Closes flow cause) ≡ p
+unfolding octets_after_event
 none_of_closes flow cause g p = refl
 
 pub none_of_passes : (octets : List ℕ) (g : ℕ) (p : List ℕ) →
-    octets_behind g p (OfCapture (Passes octets)) ≡ p
-unfolding octets_behind
+    octets_after_event g p (OfCapture (Passes octets)) ≡ p
+unfolding octets_after_event
 none_of_passes octets g p = refl
 
 pub fault_of_delivers : (flow : ℕ) (octets : List ℕ) (events : List Event) →
     reader_faulted (events ++ Delivers flow octets ∷ [])
-    ≡ fault_place (cut (octets_of flow events ++ octets)).stop
+    ≡ fault_place (cut (stream_octets_of flow events ++ octets)).stop
 fault_of_delivers flow octets events =
     last_more (events ++ Delivers flow octets ∷ []) events (Delivers flow octets)
     ∙ ap (λ (p : List ℕ). fault_place (cut p).stop)
     (octets_more flow [] events (Delivers flow octets)
-    ∙ behind_delivers flow octets (octets_of flow events))
+    ∙ behind_delivers flow octets (stream_octets_of flow events))
 
 -- ---- the start
 
@@ -165,7 +166,7 @@ new_direction Even c new = new.even
 new_direction Odd c new = new.odd
 
 pub followed_none : (slots : List Conversation) → All IsNew slots → HaveFollowed slots []
-unfolding octets_from
+unfolding octets_after_events
 followed_none slots new flow = search (arith, slice_get_cases, slice_get, get_or, new_direction)
 
 -- ---- each event, by what the connection does
@@ -188,7 +189,7 @@ same_engine Odd old new even odd = odd
 pub engines_stay : (slots : List Conversation) (events : List Event) (e : Event) (flow : ℕ)
     (old new : Conversation) → HaveFollowed slots events → slice_get slots (flow / 2) ≡ Some old →
     new.even.engine ≡ old.even.engine → new.odd.engine ≡ old.odd.engine →
-    ((g : ℕ) (p : List ℕ) → octets_behind g p e ≡ p) →
+    ((g : ℕ) (p : List ℕ) → octets_after_event g p e ≡ p) →
     HaveFollowed (set slots (flow / 2) new) (events ++ e ∷ [])
 engines_stay slots events e flow old new follows here even odd none = search (
   arith,
@@ -203,7 +204,7 @@ pub stream_begun : (slots : List Conversation) (events : List Event) (flow : ℕ
     HaveFollowed (set slots (flow / 2) new) (events ++ Begins flow start ∷ [])
 stream_begun slots events flow start old new follows here read stays =
     followed_on slots events (Begins flow start) flow old new follows here (of_begins flow start)
-    (λ h. rw (behind_begins flow start (octets_of flow events)) read)
+    (λ h. rw (behind_begins flow start (stream_octets_of flow events)) read)
     (ap (λ (d : DirectionView). d.engine) stays)
 
 octets_read : (slots : List Conversation) (events : List Event) (flow : ℕ) (octets : List ℕ)
@@ -215,8 +216,8 @@ octets_read : (slots : List Conversation) (events : List Event) (flow : ℕ) (oc
 octets_read slots events flow octets old new follows here reads stays =
     followed_on slots events (Delivers flow octets) flow old new follows here
     (of_delivers flow octets)
-    (λ h. rw (behind_delivers flow octets (octets_of flow events))
-    (reads (octets_of flow events) h))
+    (λ h. rw (behind_delivers flow octets (stream_octets_of flow events))
+    (reads (stream_octets_of flow events) h))
     (ap (λ (d : DirectionView). d.engine) stays)
 
 at_fault : (slots : List Conversation) (events : List Event) (flow : ℕ) (octets : List ℕ)
@@ -233,7 +234,7 @@ pub lacking_told : (slots : List Conversation) (events : List Event) (flow : ℕ
     ((p : List ℕ) → HasRead (direction (side_of flow) old).engine p → count ≡ lacking (cut p)) →
     count ≡ reader_lacking events flow
 lacking_told slots events flow old count follows here tells =
-    tells (octets_of flow events) (rw here at (follows flow))
+    tells (stream_octets_of flow events) (rw here at (follows flow))
 
 pub octets_told : {E : Type 0} (r : Result (Option ℕ) E) (slots : List Conversation)
     (events : List Event) (flow : ℕ) (octets : List ℕ) (old new : Conversation) →

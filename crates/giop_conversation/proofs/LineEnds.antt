@@ -8,7 +8,7 @@ use Rattle.giop_message.specs.Text.{numbered_line, line_class_text}
 use Rattle.giop_message.specs.Signatures.{Answers}
 use Rattle.giop_sig.specs.Table.{Table}
 use Rattle.giop_stream.specs.Rules.{Rules, rules_by}
-use Rattle.giop_stream.specs.HeaderOctets.{fronts, wrong, first_wrong, first_wrong_octet}
+use Rattle.giop_stream.specs.HeaderOctets.{fronts, last_octet_fault, first_front_fault, first_wrong_octet}
 use Rattle.giop_stream.specs.Framing.{limit, limited, cut_from, cut}
 use Rattle.giop_stream.specs.Lines.{Content, Started, Said, ContinuesMessage, CancelledBy, Faulted, Stopped, StreamLine, in_order, up_to_last_line, lines_of_messages, stop_line, lines}
 use Rattle.giop_stream.specs.Text as stream
@@ -24,45 +24,47 @@ use Rattle.giop_conversation.specs.declared.lines.Opening.{Opening}
 use Rattle.giop_conversation.specs.declared.lines.CaptureTotals.{CaptureTotals}
 use Rattle.giop_conversation.specs.Times.{time_text, span_text}
 use Rattle.giop_conversation.specs.Lines.{partner_text, passed_text, found_text, stream_line, time_line, answers_line, raises_line, cause_word, closed_line, capture_fault_line, capture_total_line}
-use Rattle.giop_conversation.specs.TaggedText.{ends_line, is_due}
-use Rattle.giop_conversation.specs.Exchanges.{Exchanged, Answering, Raising}
+use Rattle.giop_conversation.specs.TaggedText.{next_begins_line, is_tag_due}
+use Rattle.giop_conversation.specs.Exchanges.{ExchangeView, Answering, Raising}
 use Rattle.giop_stream.specs.DueOctets.{begun_in}
-use Rattle.giop_conversation.specs.Stamped.{time_due, answers_due, raises_due, told, lines_due, stamped}
+use Rattle.giop_conversation.specs.Stamped.{due_time_line, due_answers_line, due_raises_line, after_headers, lines_due, stamped}
 use Rattle.giop_conversation.proofs.TagLemmas.{ends_append}
 
 -- a text whose last part is LF ends a line
 ends_joined : (first : Bool) (parts : List (List ℕ)) →
-    ends_line first (joined (parts ++ codes "\n" ∷ [])) ≡ true
-unfolding ends_line
+    next_begins_line first (joined (parts ++ codes "\n" ∷ [])) ≡ true
+unfolding next_begins_line
 ends_joined first [] = refl
 ends_joined first (x ∷ xs) = ends_append first x (joined (xs ++ codes "\n" ∷ []))
-    ∙ ends_joined (ends_line first x) xs
+    ∙ ends_joined (next_begins_line first x) xs
 
 -- if two texts are whole lines, one after the other is too
-pub ends_both : (xs ys : List ℕ) → is_due xs ≡ true → is_due ys ≡ true → is_due (xs ++ ys) ≡ true
+pub ends_both : (xs ys : List ℕ) → is_tag_due xs ≡ true → is_tag_due ys ≡ true →
+    is_tag_due (xs ++ ys) ≡ true
 ends_both xs ys first second = search (arith, ends_append)
 
-pub none_ends : is_due [] ≡ true
-unfolding ends_line
+pub none_ends : is_tag_due [] ≡ true
+unfolding next_begins_line
 none_ends = refl
 
 -- ---- the lines of a stream
 
-numbered_ends : (number : ℕ) (text : List ℕ) → is_due (numbered_line number text) ≡ true
+numbered_ends : (number : ℕ) (text : List ℕ) → is_tag_due (numbered_line number text) ≡ true
 unfolding numbered_line
 numbered_ends number text = ends_joined true (codes "m" ∷ decimal number ∷ codes " " ∷ text ∷ [])
 
-fault_ends : (number : ℕ) (word : List ℕ) (place : ℕ) → is_due (fault_line number word place) ≡ true
+fault_ends : (number : ℕ) (word : List ℕ) (place : ℕ) → is_tag_due (fault_line number word place)
+    ≡ true
 unfolding fault_line
 fault_ends number word place = ends_joined true
     (codes "m" ∷ decimal number ∷ codes " fault " ∷ word ∷ codes " at " ∷ decimal place ∷ [])
 
-stream_fault_ends : (word : List ℕ) (place : ℕ) → is_due (stream_fault_line word place) ≡ true
+stream_fault_ends : (word : List ℕ) (place : ℕ) → is_tag_due (stream_fault_line word place) ≡ true
 unfolding stream_fault_line
 stream_fault_ends word place = ends_joined true
     (codes "stream fault " ∷ word ∷ codes " at " ∷ decimal place ∷ [])
 
-start_ends : (number : ℕ) (header : List ℕ) → is_due (stream.start_line number header) ≡ true
+start_ends : (number : ℕ) (header : List ℕ) → is_tag_due (stream.start_line number header) ≡ true
 unfolding stream.start_line start_line
 start_ends number header =
     ends_joined true (codes "m" ∷ decimal number ∷ codes " start 1." ∷ decimal (minor header) ∷
@@ -70,18 +72,18 @@ start_ends number header =
     ∷ order_word (order header) ∷ codes " " ∷ type_word (kind header) ∷ codes " size " ∷ decimal
     (size header) ∷ more_word (has_more header) ∷ [])
 
-continues_ends : (number opener : ℕ) → is_due (continues_line number opener) ≡ true
+continues_ends : (number opener : ℕ) → is_tag_due (continues_line number opener) ≡ true
 unfolding continues_line
 continues_ends number opener = ends_joined true
     (codes "m" ∷ decimal number ∷ codes " continues m" ∷ decimal opener ∷ [])
 
-cancelled_ends : (number by : ℕ) → is_due (cancelled_line number by) ≡ true
+cancelled_ends : (number by : ℕ) → is_tag_due (cancelled_line number by) ≡ true
 unfolding cancelled_line
 cancelled_ends number by = ends_joined true
     (codes "m" ∷ decimal number ∷ codes " cancelled by m" ∷ decimal by ∷ [])
 
 class_ends : (place number : ℕ) (line_class : LineClass) (text : List ℕ) →
-    is_due (line_class_text place number line_class text) ≡ true
+    is_tag_due (line_class_text place number line_class text) ≡ true
 class_ends place number Value text = numbered_ends number text
 class_ends place number Call text = numbered_ends number text
 class_ends place number Rest text = numbered_ends number text
@@ -89,7 +91,7 @@ class_ends place number Fault text = fault_ends number text place
 class_ends place number End text = numbered_ends number text
 
 content_ends : (place number : ℕ) (content : Content) →
-    is_due (stream.content_line place number content) ≡ true
+    is_tag_due (stream.content_line place number content) ≡ true
 content_ends place number (Started header) = start_ends number header
 content_ends place number (Said line_class text) = search (arith, class_ends)
 content_ends place number (ContinuesMessage i) = continues_ends number i
@@ -97,22 +99,22 @@ content_ends place number (CancelledBy j) = cancelled_ends number j
 content_ends place number (Faulted fault) = search (arith, fault_ends)
 content_ends place number (Stopped fault) = search (arith, stream_fault_ends)
 
-all_end : (ls : List StreamLine) → is_due (flat_map stream.line_text ls) ≡ true
+all_end : (ls : List StreamLine) → is_tag_due (flat_map stream.line_text ls) ≡ true
 all_end [] = none_ends
 all_end (l ∷ ls) = search (arith, ends_both, content_ends, all_end ls)
 
-text_ends : (R : Rules) (p : List ℕ) → is_due (text R p) ≡ true
+text_ends : (R : Rules) (p : List ℕ) → is_tag_due (text R p) ≡ true
 unfolding text stream.lines_text
 text_ends R p = all_end (lines R p)
 
 no_text : (R : Rules) → text R [] ≡ []
 unfolding text stream.lines_text lines lines_of_messages in_order up_to_last_line stop_line cut
-    limited limit cut_from first_wrong_octet fronts first_wrong wrong
+    limited limit cut_from first_wrong_octet fronts first_front_fault last_octet_fault
 no_text R = refl
 
 -- the text that more octets add is whole lines
 pub added_ends : (C : Table) (a : Answers) (most : ℕ) (p q : List ℕ) →
-    is_due (added (rules_by C a most) p q) ≡ true
+    is_tag_due (added (rules_by C a most) p q) ≡ true
 unfolding added
 added_ends C a most p q =
     let R = rules_by C a most in
@@ -121,42 +123,43 @@ added_ends C a most p q =
     let both : text R (p ++ q) ≡ text R p ++ added R p q =
     sym (of (p ++ q)) ∙ (added_both_by C a most [] p q
     ∙ ap (λ (t : List ℕ). t ++ added R p q) (of p)) in
-    ap (λ b. ends_line b (added R p q)) (sym (text_ends R p))
+    ap (λ b. next_begins_line b (added R p q)) (sym (text_ends R p))
     ∙ (sym (ends_append true (text R p) (added R p q))
-    ∙ (ap is_due (sym both) ∙ text_ends R (p ++ q)))
+    ∙ (ap is_tag_due (sym both) ∙ text_ends R (p ++ q)))
 
 -- ---- the closing
 
 total_ends : (first : Bool) (messages faults octets : ℕ) →
-    ends_line first (total_line messages faults octets) ≡ true
+    next_begins_line first (total_line messages faults octets) ≡ true
 unfolding total_line
 total_ends first messages faults octets =
     ends_joined first (codes "total messages " ∷ decimal messages ∷ codes " faults " ∷ decimal
     faults
     ∷ codes " octets " ∷ decimal octets ∷ [])
 
-pub closing_ends : (R : Rules) (p : List ℕ) → is_due (closing R p) ≡ true
+pub closing_ends : (R : Rules) (p : List ℕ) → is_tag_due (closing R p) ≡ true
 unfolding closing
 closing_ends R p = search (arith, flat_map, ends_append, total_ends)
 
 -- ---- the lines of a capture
 
 pub stream_line_ends : (flow : Flow) (opening : Opening) →
-    is_due (stream_line flow opening) ≡ true
+    is_tag_due (stream_line flow opening) ≡ true
 unfolding stream_line
 stream_line_ends flow opening =
     ends_joined true (codes "stream " ∷ endpoint_text flow.from ∷ codes " > " ∷ endpoint_text
     flow.to ∷ codes " at " ∷ time_text opening.time ∷ partner_text opening.partner
     ∷ passed_text opening.start.passed ∷ found_text opening.start.is_found ∷ [])
 
-pub time_line_ends : (message : ℕ) (arrival : Arrival) → is_due (time_line message arrival) ≡ true
+pub time_line_ends : (message : ℕ) (arrival : Arrival) → is_tag_due (time_line message arrival)
+    ≡ true
 unfolding time_line
 time_line_ends message arrival = ends_joined true
     (codes "m" ∷ decimal message ∷ codes " time " ∷ time_text arrival.time ∷ codes " packet "
     ∷ decimal arrival.packet ∷ [])
 
 pub answers_line_ends : (message : ℕ) (call : OutstandingCall) (time : Option ℕ) →
-    is_due (answers_line message call time) ≡ true
+    is_tag_due (answers_line message call time) ≡ true
 unfolding answers_line
 answers_line_ends message call time =
     ends_joined true (codes "m" ∷ decimal message ∷ codes " answers s" ∷ decimal call.stream ∷ codes
@@ -164,21 +167,21 @@ answers_line_ends message call time =
     ∷ codes " " ∷ call.name.items ∷ codes " after " ∷ span_text call.time time ∷ [])
 
 pub raises_line_ends : (message : ℕ) (repository : List ℕ) →
-    is_due (raises_line message repository) ≡ true
+    is_tag_due (raises_line message repository) ≡ true
 unfolding raises_line
 raises_line_ends message repository = ends_joined true
     (codes "m" ∷ decimal message ∷ codes " raises " ∷ repository ∷ [])
 
-pub closed_line_ends : (cause : CloseCause) → is_due (closed_line cause) ≡ true
+pub closed_line_ends : (cause : CloseCause) → is_tag_due (closed_line cause) ≡ true
 unfolding closed_line
 closed_line_ends cause = ends_joined true (codes "closed " ∷ cause_word cause ∷ [])
 
-pub capture_fault_ends : (word : List ℕ) (at : ℕ) → is_due (capture_fault_line word at) ≡ true
+pub capture_fault_ends : (word : List ℕ) (at : ℕ) → is_tag_due (capture_fault_line word at) ≡ true
 unfolding capture_fault_line
 capture_fault_ends word at = ends_joined true
     (codes "capture fault " ∷ word ∷ codes " at " ∷ decimal at ∷ [])
 
-pub capture_total_ends : (t : CaptureTotals) → is_due (capture_total_line t) ≡ true
+pub capture_total_ends : (t : CaptureTotals) → is_tag_due (capture_total_line t) ≡ true
 unfolding capture_total_line
 capture_total_ends t =
     ends_joined true (codes "total streams " ∷ decimal t.streams ∷ codes " messages " ∷ decimal
@@ -186,38 +189,40 @@ capture_total_ends t =
     ∷ codes " octets " ∷ decimal t.octets ∷ codes " other " ∷ decimal t.others ∷ [])
 
 pub closing_lines_end : (R : Rules) (p : List ℕ) (cause : CloseCause) →
-    is_due (closed_line cause ++ closing R p) ≡ true
+    is_tag_due (closed_line cause ++ closing R p) ≡ true
 closing_lines_end R p cause = search (arith, ends_both, closed_line_ends, closing_ends)
 
 -- ---- the lines that are due after octets
 
-time_due_ends : (begun : Option ℕ) (arrival : Arrival) → is_due (time_due begun arrival) ≡ true
+time_due_ends : (begun : Option ℕ) (arrival : Arrival) → is_tag_due (due_time_line begun arrival)
+    ≡ true
 time_due_ends None arrival = none_ends
 time_due_ends (Some message) arrival = time_line_ends message arrival
 
 answers_due_ends : (answered : Option Answering) (time : Option ℕ) →
-    is_due (answers_due answered time) ≡ true
+    is_tag_due (due_answers_line answered time) ≡ true
 answers_due_ends None time = none_ends
 answers_due_ends (Some a) time = search (arith, answers_line_ends)
 
-raises_due_ends : (raised : Option Raising) → is_due (raises_due raised) ≡ true
+raises_due_ends : (raised : Option Raising) → is_tag_due (due_raises_line raised) ≡ true
 raises_due_ends None = none_ends
 raises_due_ends (Some r) = search (arith, raises_line_ends)
 
-pub lines_due_end : (R : Rules) (s : Exchanged) (p octets : List ℕ) →
-    is_due (lines_due R s p octets) ≡ true
+pub lines_due_end : (R : Rules) (s : ExchangeView) (p octets : List ℕ) →
+    is_tag_due (lines_due R s p octets) ≡ true
 unfolding lines_due
 lines_due_end R s p octets =
-    let behind = told R s p octets in
-    ends_both (time_due (begun_in p octets) s.arrival) (answers_due behind.answered s.arrival.time
-    ++ raises_due behind.raised)
-    (time_due_ends (begun_in p octets) s.arrival) (ends_both (answers_due behind.answered
-    s.arrival.time) (raises_due behind.raised)
+    let behind = after_headers R s p octets in
+    ends_both (due_time_line (begun_in p octets) s.arrival) (due_answers_line behind.answered
+    s.arrival.time
+    ++ due_raises_line behind.raised)
+    (time_due_ends (begun_in p octets) s.arrival) (ends_both (due_answers_line behind.answered
+    s.arrival.time) (due_raises_line behind.raised)
     (answers_due_ends behind.answered s.arrival.time) (raises_due_ends behind.raised))
 
 -- all that is written of octets is whole lines
-pub stamped_ends : (C : Table) (a : Answers) (most : ℕ) (octets p : List ℕ) (s : Exchanged) →
-    is_due (stamped (rules_by C a most) s p octets) ≡ true
+pub stamped_ends : (C : Table) (a : Answers) (most : ℕ) (octets p : List ℕ) (s : ExchangeView) →
+    is_tag_due (stamped (rules_by C a most) s p octets) ≡ true
 unfolding stamped
 stamped_ends C a most [] p s = none_ends
 stamped_ends C a most (x ∷ xs) p s =

@@ -6,52 +6,52 @@ use Rattle.giop_stream.specs.Stream.{text}
 use Rattle.giop_stream.specs.AnswersAgree.{AnswersAgree}
 use Rattle.tcp_flow.specs.declared.flow.Start.{Start}
 use Rattle.tcp_flow.specs.Flow.{Event, Opens, Begins, Delivers, Closes, OfCapture, flow_of}
-use Rattle.tcp_flow.specs.Laws.{OwnMayFollow, MayFollow, AllFollow}
+use Rattle.tcp_flow.specs.Laws.{OwnEventMayFollow, EventMayFollow, EventsMayFollow}
 use Rattle.tcp_flow.specs.declared.flow.CloseCause.{CloseCause}
 use Rattle.tcp_segment.specs.declared.endpoint.Flow.{Flow}
-use Rattle.giop_conversation.specs.Captured.{Setup, Dump, Leads, start, rules_in, number_in}
-use Rattle.giop_conversation.specs.StreamTexts.{StreamHistory, read_on, closed, History, no_history, with_begun, with_stream, happened, history, AreGapless, IsUnique}
+use Rattle.giop_conversation.specs.Captured.{Setup, Dump, Leads, start, rules_in, next_stream_number}
+use Rattle.giop_conversation.specs.StreamTexts.{StreamHistory, with_octets, with_close, History, no_history, with_begun, with_stream, history_after_event, history, AreGapless, IsUnique}
 use Rattle.giop_conversation.proofs.StreamNumbers.{AreNumbered, stream_else, unequal}
 use Rattle.giop_conversation.proofs.StreamTextLemmas.{AreShown, on_event, at_start}
 
 -- ---- one event of a flow, by the number that is due before and after the event
 
 opens_none : (payloads : _) (f g : ℕ) (e : Flow) (before behind : Option ℕ) →
-    OwnMayFollow payloads f before (Opens g e) behind →
+    OwnEventMayFollow payloads f before (Opens g e) behind →
     is_some behind ≡ true → ⊥
-unfolding OwnMayFollow
+unfolding OwnEventMayFollow
 opens_none payloads f g e None None own lives = cc
 opens_none payloads f g e None (Some n) own lives = own
 opens_none payloads f g e (Some m) None own lives = own
 opens_none payloads f g e (Some m) (Some n) own lives = own
 
 delivers_live : (payloads : _) (f g : ℕ) (octets : List ℕ) (before behind : Option ℕ) →
-    OwnMayFollow payloads f before (Delivers g octets) behind → is_some before ≡ true
-unfolding OwnMayFollow
+    OwnEventMayFollow payloads f before (Delivers g octets) behind → is_some before ≡ true
+unfolding OwnEventMayFollow
 delivers_live payloads f g octets None None own = absurd own
 delivers_live payloads f g octets None (Some n) own = absurd own
 delivers_live payloads f g octets (Some m) None own = absurd own
 delivers_live payloads f g octets (Some m) (Some n) own = refl
 
 closes_live : (payloads : _) (f g : ℕ) (cause : CloseCause) (before behind : Option ℕ) →
-    OwnMayFollow payloads f before (Closes g cause) behind → (is_some before ≡ true)
+    OwnEventMayFollow payloads f before (Closes g cause) behind → (is_some before ≡ true)
     × (is_some behind ≡ true → ⊥)
-unfolding OwnMayFollow
+unfolding OwnEventMayFollow
 closes_live payloads f g cause None None own = absurd own
 closes_live payloads f g cause None (Some n) own = absurd own
 closes_live payloads f g cause (Some m) None own = (refl, λ lives. cc)
 closes_live payloads f g cause (Some m) (Some n) own = absurd own
 
 own_event : (payloads : _) (f : ℕ) (e : Event) (before behind : Option ℕ) → flow_of e ≡ Some f →
-    MayFollow payloads f before e behind →
-    OwnMayFollow payloads f before e behind
+    EventMayFollow payloads f before e behind →
+    OwnEventMayFollow payloads f before e behind
 own_event payloads f e before behind is (inl own) = own.1
 own_event payloads f e before behind is (inr past) = absurd (past.0 is)
 
 -- another flow lives after the event only if it lived before
 lives_still : (payloads : _) (f : ℕ) (e : Event) (before behind : Option ℕ) →
     (flow_of e ≡ Some f → ⊥) →
-    MayFollow payloads f before e behind → is_some behind ≡ true → is_some before ≡ true
+    EventMayFollow payloads f before e behind → is_some behind ≡ true → is_some before ≡ true
 lives_still payloads f e before behind past (inl own) lives = absurd (past own.0)
 lives_still payloads f e before behind past (inr same) lives = ap is_some same.1 ∙ lives
 
@@ -68,7 +68,7 @@ record EndOnce (h : History) (due : ℕ → Option ℕ) : Type 0 where
 module _ (S : Setup) (h : History) (due behind : ℕ → Option ℕ) (k : AreNumbered S h)
     (t : EndOnce h due) where
   abbrev FollowsBy : Event → Type 0
-  FollowsBy e = (f : ℕ) → (payloads : _) × MayFollow payloads f (due f) e (behind f)
+  FollowsBy e = (f : ℕ) → (payloads : _) × EventMayFollow payloads f (due f) e (behind f)
 
   opened_ends : (id : ℕ) (flow : Flow) → FollowsBy (Opens id flow) → EndOnce h behind
   opened_ends id flow follows = record {
@@ -91,7 +91,7 @@ module _ (S : Setup) (h : History) (due behind : ℕ → Option ℕ) (k : AreNum
 
   begun_ends : (id : ℕ) (n : Start) (b : Bool) →
       (b ≡ false → h.stream_of id ≡ 0) → FollowsBy (Begins id n) →
-      EndOnce (with_begun h id (number_in S h.begun) b) behind
+      EndOnce (with_begun h id (next_stream_number S h.begun) b) behind
   begun_ends id n true room follows = record {
     ends = t.ends;
     live =
@@ -99,12 +99,13 @@ module _ (S : Setup) (h : History) (due behind : ℕ → Option ℕ) (k : AreNum
   }
     where
       by : (f : ℕ) → is_some (behind f) ≡ true → (b : Bool) → (f == id) ≡ b →
-          IsUnique (if f == id then number_in S h.begun else h.stream_of f) →
-          (h.stream (if f == id then number_in S h.begun else h.stream_of f)).is_closed ≡ false
+          IsUnique (if f == id then next_stream_number S h.begun else h.stream_of f) →
+          (h.stream (if f == id then next_stream_number S h.begun else h.stream_of f)).is_closed
+          ≡ false
       by f lives true is number =
-          let one : IsUnique (number_in S h.begun) = rw is at number in
+          let one : IsUnique (next_stream_number S h.begun) = rw is at number in
           rw is (ap (λ (s : StreamHistory). s.is_closed)
-          (k.fresh (number_in S h.begun) one (omega arith)))
+          (k.fresh (next_stream_number S h.begun) one (omega arith)))
       by f lives false is number =
           let x = follows f in
           rw is (t.live f (lives_still x.0 f (Begins id n) (due f) (behind f)
@@ -135,14 +136,15 @@ module _ (S : Setup) (h : History) (due behind : ℕ → Option ℕ) (k : AreNum
   goes_not id lives number = search (arith)
 
   delivered_ends : (a : Answers) (id : ℕ) (octets : List ℕ) → FollowsBy (Delivers id octets) →
-      EndOnce (with_stream h (h.stream_of id) (read_on a octets (h.stream (h.stream_of id)))) behind
+      EndOnce (with_stream h (h.stream_of id) (with_octets a octets (h.stream (h.stream_of id))))
+      behind
   delivered_ends a id octets follows = record {
     ends = changed_ends id next (goes_not id lived);
     live = λ f lives number. stays (h.stream_of f) ∙ by f lives number (cases_eq f id);
   }
     where
       next : StreamHistory
-      next = read_on a octets (h.stream (h.stream_of id))
+      next = with_octets a octets (h.stream (h.stream_of id))
 
       lived : is_some (due id) ≡ true
       lived =
@@ -164,14 +166,14 @@ module _ (S : Setup) (h : History) (due behind : ℕ → Option ℕ) (k : AreNum
           (other_flow f id apart) x.1 lives) number
 
   closed_ends : (id : ℕ) (cause : CloseCause) → FollowsBy (Closes id cause) →
-      EndOnce (with_stream h (h.stream_of id) (closed (h.stream (h.stream_of id)))) behind
+      EndOnce (with_stream h (h.stream_of id) (with_close (h.stream (h.stream_of id)))) behind
   closed_ends id cause follows = record {
     ends = changed_ends id next (goes_not id did.0);
     live = λ f lives number. by f lives number (cases_eq f id);
   }
     where
       next : StreamHistory
-      next = closed (h.stream (h.stream_of id))
+      next = with_close (h.stream (h.stream_of id))
 
       did : (is_some (due id) ≡ true) × (is_some (behind id) ≡ true → ⊥)
       did =
@@ -192,7 +194,8 @@ module _ (S : Setup) (h : History) (due behind : ℕ → Option ℕ) (k : AreNum
           ∙ t.live f (lives_still x.0 f (Closes id cause) (due f) (behind f) (other_flow f id apart)
           x.1 lives) number
 
-  event_ends : (a : Answers) (e : Event) → FollowsBy e → EndOnce (happened S a h e) behind
+  event_ends : (a : Answers) (e : Event) → FollowsBy e → EndOnce (history_after_event S a h e)
+      behind
   event_ends a (Opens id flow) follows = opened_ends id flow follows
   event_ends a (Begins id n) follows = begun_ends id n (nat_lt (id / 2) S.connections)
       (λ none. k.beyond id (by none (cases_lt (id / 2) S.connections))) follows
@@ -220,15 +223,15 @@ module _ (S : Setup) (written : List ℕ)
       (leads : Leads S d events behind) →
       AreShown S written h d → EndOnce h due →
       ((f : ℕ) → (payloads : _) × (last : Option ℕ)
-      × AllFollow payloads f (due f) events last) →
+      × EventsMayFollow payloads f (due f) events last) →
       (m : ℕ) → IsUnique m → ((history S h d events behind leads).stream m).goes_on ≡ false
-  unfolding AllFollow
+  unfolding EventsMayFollow
   ends_on [] h due d behind leads b t turn m number = t.ends m number
   ends_on (e ∷ es) h due d behind leads b t turn m number =
       let a = leads.1.answers in
       let next : ℕ → Option ℕ = λ f. (turn f).2.0 in
-      ends_on es (happened S a h e) next leads.0 behind leads.2
-      (subst (AreShown S written (happened S a h e)) (sym leads.1.is)
+      ends_on es (history_after_event S a h e) next leads.0 behind leads.2
+      (subst (AreShown S written (history_after_event S a h e)) (sym leads.1.is)
       (on_event S written agree a h d e leads.1.answered b))
       (event_ends S h due next b.numbers t a e (λ f. ((turn f).0, (turn f).2.1.0)))
       (λ f. ((turn f).0, (turn f).1, (turn f).2.1.1)) m number

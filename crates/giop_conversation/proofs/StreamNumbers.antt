@@ -4,19 +4,19 @@ use Rattle.std.proofs.Math.ListN.{length-set}
 use Rattle.std.proofs.Math.Nat.{min-le_right}
 use Rattle.std.proofs.lemmas.Bool.{eqb-true, eqb-false, eq-eqb, cases_lt, false_from_ne_true}
 use Rattle.std.proofs.lemmas.Option.{slice_get_cases}
-use Rattle.giop_print.specs.Output.{counted}
+use Rattle.giop_print.specs.Output.{saturating_next}
 use Rattle.giop_message.specs.Signatures.{Answers}
 use Rattle.giop_stream.specs.Stream.{text, closing}
 use Rattle.giop_conversation.specs.declared.conversation.Side.{Side}
 use Rattle.giop_conversation.specs.declared.conversation.Side.TheVariants.{Even, Odd}
 use Rattle.giop_conversation.specs.Followed.{side_of, other}
-use Rattle.giop_conversation.specs.Captured.{Setup, Half, Connection, half, with_half, rules_in, number_in}
+use Rattle.giop_conversation.specs.Captured.{Setup, Half, Connection, half, with_half, rules_in, next_stream_number}
 use Rattle.giop_conversation.specs.StreamTexts.{StreamHistory, new_stream, History, with_begun, with_stream, IsUnique}
 
 -- ---- the flows of connections
 
 -- the id of a flow, by the index of its connection and its side
-abbrev pub flow_id : ℕ → Side → ℕ
+abbrev pub flow_id : (i : ℕ) (side : Side) → ℕ
 flow_id i Even = 2 * i
 flow_id i Odd = 2 * i + 1
 
@@ -55,10 +55,10 @@ pub record IsHalf (S : Setup) (h : History) (id stream : ℕ) (octets : List ℕ
   pub closing_is : IsUnique stream → closing (rules_in S answers) octets
       ≡ closing (rules_in S (h.stream stream).answers) octets
 
-abbrev pub HasHalf : Setup → History → ℕ → Half → Type 0
+abbrev pub HasHalf : (S : Setup) (h : History) (id : ℕ) (s : Half) → Type 0
 HasHalf S h id s = IsHalf S h id s.stream s.octets s.answers
 
-abbrev pub HasHalves : Setup → History → ℕ → Connection → Type 0
+abbrev pub HasHalves : (S : Setup) (h : History) (i : ℕ) (c : Connection) → Type 0
 HasHalves S h i c = (p : Side) → HasHalf S h (flow_id i p) (half p c)
 
 pub record AreHalves (S : Setup) (h : History) (cs : List Connection) : Type 0 where
@@ -69,30 +69,31 @@ pub record AreHalves (S : Setup) (h : History) (cs : List Connection) : Type 0 w
 
 pub record AreNumbered (S : Setup) (h : History) : Type 0 where
   pub most : h.begun ≤ 2 ^ 64 - 1
-  pub within : (f : ℕ) → IsUnique (h.stream_of f) → h.stream_of f < number_in S h.begun
+  pub within : (f : ℕ) → IsUnique (h.stream_of f) → h.stream_of f < next_stream_number S h.begun
   pub apart : (f g : ℕ) → IsUnique (h.stream_of f) → h.stream_of f ≡ h.stream_of g → f ≡ g
-  pub fresh : (n : ℕ) → IsUnique n → number_in S h.begun ≤ n → h.stream n ≡ new_stream
+  pub fresh : (n : ℕ) → IsUnique n → next_stream_number S h.begun ≤ n → h.stream n ≡ new_stream
   pub beyond : (f : ℕ) → S.connections ≤ f / 2 → h.stream_of f ≡ 0
 
 -- ---- the count of streams
 
-counted_most : (n : ℕ) → counted n ≤ 2 ^ 64 - 1
-unfolding counted
+counted_most : (n : ℕ) → saturating_next n ≤ 2 ^ 64 - 1
+unfolding saturating_next
 counted_most n = search (arith, min-le_right)
 
 -- the number of the next stream doesn't fall, and rises if it isn't the greatest
-next_up : (S : Setup) (n : ℕ) → n ≤ 2 ^ 64 - 1 → number_in S n ≤ number_in S (counted n)
-unfolding counted
+next_up : (S : Setup) (n : ℕ) → n ≤ 2 ^ 64 - 1 → next_stream_number S n ≤ next_stream_number S
+    (saturating_next n)
+unfolding saturating_next
 next_up S n most = omega (arith, most)
 
-next_new : (S : Setup) (n : ℕ) → n ≤ 2 ^ 64 - 1 → number_in S n < 2 ^ 64 - 1 →
-    number_in S n < number_in S (counted n)
-unfolding counted
+next_new : (S : Setup) (n : ℕ) → n ≤ 2 ^ 64 - 1 → next_stream_number S n < 2 ^ 64 - 1 →
+    next_stream_number S n < next_stream_number S (saturating_next n)
+unfolding saturating_next
 next_new S n most few = omega (arith, most, few)
 
 pub numbers_begun : (S : Setup) (h : History) (id : ℕ) (b : Bool) →
     (b ≡ true → id / 2 < S.connections) → AreNumbered S h →
-    AreNumbered S (with_begun h id (number_in S h.begun) b)
+    AreNumbered S (with_begun h id (next_stream_number S h.begun) b)
 numbers_begun S h id false room k = search (arith, counted_most, next_up)
 numbers_begun S h id true room k = search (arith, counted_most, next_up, next_new, eqb-true)
 
@@ -107,7 +108,7 @@ pub unequal : (n m : ℕ) → (n ≡ m → ⊥) → (n == m) ≡ false
 unequal n m apart = search (arith, false_from_ne_true, eqb-true)
 
 pub numbers_with : (S : Setup) (h : History) (n : ℕ) (s : StreamHistory) →
-    (IsUnique n → n < number_in S h.begun) →
+    (IsUnique n → n < next_stream_number S h.begun) →
     AreNumbered S h → AreNumbered S (with_stream h n s)
 numbers_with S h n s within k = search (arith, stream_else, unequal)
 

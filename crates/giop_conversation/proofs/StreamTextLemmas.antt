@@ -4,7 +4,7 @@ use Rattle.std.proofs.lemmas.Bool.{eqb-true, eq-eqb, lt-ltb, ltb-true, false_fro
 use Rattle.std.proofs.lemmas.List.{length-replicate}
 use Rattle.std.proofs.lemmas.Option.{slice_get_within}
 use Rattle.std.proofs.lemmas.Grind.{flat_map-append}
-use Rattle.giop_print.specs.Output.{counted}
+use Rattle.giop_print.specs.Output.{saturating_next}
 use Rattle.giop_sig.specs.Table.{Table}
 use Rattle.giop_message.specs.Signatures.{Answers}
 use Rattle.giop_stream.specs.Rules.{Rules, rules_by}
@@ -20,10 +20,10 @@ use Rattle.giop_conversation.specs.declared.conversation.Side.TheVariants.{Even,
 use Rattle.giop_conversation.specs.Tags.{stream_tag, with_tags}
 use Rattle.giop_conversation.specs.Lines.{capture_fault_line}
 use Rattle.giop_conversation.specs.Followed.{side_of, other}
-use Rattle.giop_conversation.specs.Captured.{Setup, Half, Connection, Dump, Leads, Answered, IsAnswered, start, new_connection, half, rules_in, number_in, delivered_lines, calls_behind, opening, opened_in, begun_in, delivered_in, closed_in, closed_lines, stepped, calls_in}
-use Rattle.giop_conversation.specs.CaptureParts.{StreamPart, read_lines, own_lines, Part, OfStream, FaultLine, part_text, text_of, of_stream, read_of, own_of}
-use Rattle.giop_conversation.specs.StreamTexts.{StreamHistory, new_stream, read_on, closed, History, no_history, with_begun, with_stream, happened, history, IsDumped, IsUnique, ShowsStreams}
-use Rattle.giop_conversation.specs.Exchanges.{Exchanged}
+use Rattle.giop_conversation.specs.Captured.{Setup, Half, Connection, Dump, Leads, AnswersFitEvent, AnswersAreOfCalls, start, new_connection, half, rules_in, next_stream_number, lines_of_delivered, calls_after_octets, opening, dump_after_open, dump_after_begin, dump_after_octets, dump_after_close, closed_lines, dump_after_event, calls_in}
+use Rattle.giop_conversation.specs.CaptureParts.{StreamPart, giopdump_read_lines, giopdump_lines, CapturePart, OfStream, FaultLine, part_text, parts_text, lines_if_of_stream, giopdump_read_lines_of, giopdump_lines_of}
+use Rattle.giop_conversation.specs.StreamTexts.{StreamHistory, new_stream, with_octets, with_close, History, no_history, with_begun, with_stream, history_after_event, history, IsDumped, IsUnique, ShowsStreams}
+use Rattle.giop_conversation.specs.Exchanges.{ExchangeView}
 use Rattle.giop_conversation.specs.Stamped.{begin_lines}
 use Rattle.giop_conversation.proofs.EmptyStream.{no_text, one_closing}
 use Rattle.giop_conversation.proofs.PartLemmas.{AreParts, whole_both, are_whole, text_is, of_it, of_another, begin_parts, closed_parts, stamped_parts}
@@ -54,34 +54,38 @@ more_lines S written h behind all n lines reads own t more others here = record 
   streams = λ m is. by m is (n == m) refl;
 }
   where
-    new : List Part
+    new : List CapturePart
     new = map (OfStream n) more.parts
 
-    shown : all ++ with_tags (stream_tag n) lines ≡ written ++ text_of (t.parts ++ new)
+    shown : all ++ with_tags (stream_tag n) lines ≡ written ++ parts_text (t.parts ++ new)
     shown = search (arith, append_assoc, text_is, flat_map-append)
 
-    of : (m : ℕ) (f : StreamPart → List ℕ) (x : List ℕ) → flat_map (of_stream f m) new ≡ x →
-        flat_map (of_stream f m) (t.parts ++ new) ≡ flat_map (of_stream f m) t.parts ++ x
+    of : (m : ℕ) (f : StreamPart → List ℕ) (x : List ℕ) → flat_map (lines_if_of_stream f m) new
+        ≡ x →
+        flat_map (lines_if_of_stream f m) (t.parts ++ new) ≡ flat_map (lines_if_of_stream f m)
+        t.parts ++ x
     of m f x is = search (arith, flat_map-append, flat_map)
 
     by : (m : ℕ) → IsUnique m → (b : Bool) → (n == m) ≡ b →
-        IsDumped S (behind.stream m) (read_of m (t.parts ++ new)) (own_of m (t.parts ++ new))
+        IsDumped S (behind.stream m) (giopdump_read_lines_of m (t.parts ++ new))
+        (giopdump_lines_of m (t.parts ++ new))
     by m is true same =
         let it : n ≡ m = eqb-true _ _ same in
-        subst (λ k. IsDumped S (behind.stream k) (read_of k (t.parts ++ new))
-        (own_of k (t.parts ++ new))) it
+        subst (λ k. IsDumped S (behind.stream k) (giopdump_read_lines_of k (t.parts ++ new))
+        (giopdump_lines_of k (t.parts ++ new))) it
         (rw (
-          of n read_lines reads (of_it read_lines n more.parts ∙ more.reads_are),
-          of n own_lines own (of_it own_lines n more.parts ∙ more.own_are),
+          of n giopdump_read_lines reads (of_it giopdump_read_lines n more.parts ∙ more.reads_are),
+          of n giopdump_lines own (of_it giopdump_lines n more.parts ∙ more.own_are),
         )
-        (here (subst IsUnique (sym it) is) (read_of n t.parts) (own_of n t.parts)
+        (here (subst IsUnique (sym it) is) (giopdump_read_lines_of n t.parts) (giopdump_lines_of n
+        t.parts)
         (t.streams n (subst IsUnique (sym it) is))))
     by m is false apart =
         rw (
-          of m read_lines [] (of_another read_lines n m more.parts apart),
-          of m own_lines [] (of_another own_lines n m more.parts apart),
-          append-nil (read_of m t.parts),
-          append-nil (own_of m t.parts),
+          of m giopdump_read_lines [] (of_another giopdump_read_lines n m more.parts apart),
+          of m giopdump_lines [] (of_another giopdump_lines n m more.parts apart),
+          append-nil (giopdump_read_lines_of m t.parts),
+          append-nil (giopdump_lines_of m t.parts),
           others m is apart,
         )
         (t.streams m is)
@@ -94,21 +98,22 @@ more_fault S written h all word at t = record {
   parts = t.parts ++ new;
   whole = whole_both t.parts new t.whole (tt, tt);
   shows = ap (λ (x : List ℕ). x ++ line) t.shows
-      ∙ (append_assoc written (text_of t.parts) line
+      ∙ (append_assoc written (parts_text t.parts) line
       ∙ ap (λ (x : List ℕ). written ++ x)
       (sym (flat_map-append part_text t.parts new
-      ∙ ap (λ (x : List ℕ). text_of t.parts ++ x) (append-nil line))));
-  streams = λ m is. rw (of m read_lines, of m own_lines) (t.streams m is);
+      ∙ ap (λ (x : List ℕ). parts_text t.parts ++ x) (append-nil line))));
+  streams = λ m is. rw (of m giopdump_read_lines, of m giopdump_lines) (t.streams m is);
 }
   where
     line : List ℕ
     line = capture_fault_line word at
 
-    new : List Part
+    new : List CapturePart
     new = FaultLine word at ∷ []
 
     of : (m : ℕ) (f : StreamPart → List ℕ) →
-        flat_map (of_stream f m) (t.parts ++ new) ≡ flat_map (of_stream f m) t.parts
+        flat_map (lines_if_of_stream f m) (t.parts ++ new) ≡ flat_map (lines_if_of_stream f m)
+        t.parts
     of m f = search (arith, flat_map-append, append-nil, flat_map)
 
 -- ---- events
@@ -132,22 +137,22 @@ module _ (S : Setup) (written : List ℕ)
     text (rules_in S a) p ≡ text (rules_in S b) p) where
   on_opened : (h : History) (d : Dump) (id : ℕ) (flow : Flow) (o : Option Connection) →
       slice_get d.connections (id / 2) ≡ o →
-      AreShown S written h d → AreShown S written h (opened_in d id flow o)
+      AreShown S written h d → AreShown S written h (dump_after_open d id flow o)
   on_opened h d id flow None is b = b
   on_opened h d id flow (Some c) is b = search (arith, own_half, half_on)
 
   on_begun : (h : History) (d : Dump) (id : ℕ) (start : Start) (o : Option Connection) →
       slice_get d.connections (id / 2) ≡ o →
       AreShown S written h d → AreShown S written
-      (with_begun h id (number_in S h.begun) (nat_lt (id / 2) S.connections))
-      (begun_in S d id start o)
+      (with_begun h id (next_stream_number S h.begun) (nat_lt (id / 2) S.connections))
+      (dump_after_begin S d id start o)
   on_begun h d id start None is b =
       let past = no_slot d.connections (id / 2) is in
       let none : nat_lt (id / 2) S.connections ≡ false =
       false_from_ne_true _ (λ some. let low = ltb-true _ _ some in let slots = b.halves.slots in
       omega (arith, past, low, slots)) in
       rw none (record {
-        count = ap counted b.count;
+        count = ap saturating_next b.count;
         halves = record {
           slots = b.halves.slots;
           halves =
@@ -163,7 +168,7 @@ module _ (S : Setup) (written : List ℕ)
       })
     where
       by : (i : ℕ) (o : Option Connection) → IfSome o (HasHalves S h i) →
-          IfSome o (HasHalves S (with_begun h id (number_in S h.begun) false) i)
+          IfSome o (HasHalves S (with_begun h id (next_stream_number S h.begun) false) i)
       by i None has = tt
       by i (Some c) has = search (arith, text_is)
   on_begun h d id start (Some c) is b =
@@ -171,15 +176,16 @@ module _ (S : Setup) (written : List ℕ)
       let slots = b.halves.slots in
       let room : id / 2 < S.connections = omega (arith, low, slots) in
       let some : nat_lt (id / 2) S.connections ≡ true = lt-ltb _ _ room in
-      let n = number_in S d.streams in
+      let n = next_stream_number S d.streams in
       let s = half (side_of id) c in
       let opens = opening (side_of id) d.arrival.time start c in
       let lines = begin_parts s.flow opens in
       let new : IsUnique n → h.stream n ≡ new_stream =
       λ number. b.numbers.fresh n number (rw b.count (omega arith)) in
       rw some (record {
-        count = ap counted b.count;
-        halves = half_on S h (with_begun h id (number_in S h.begun) true) d.connections id c
+        count = ap saturating_next b.count;
+        halves = half_on S h (with_begun h id (next_stream_number S h.begun) true) d.connections id
+            c
             (record s { stream = n; is_live = true; octets = [] }) is b.halves
             (λ g m p a apart k. record {
               stream_is = k.stream_is ∙ sym (rw (unequal g id apart) refl);
@@ -188,7 +194,7 @@ module _ (S : Setup) (written : List ℕ)
               closing_is = k.closing_is;
             })
             (record {
-              stream_is = ap (number_in S) b.count ∙ sym (rw (eq-eqb id id refl) refl);
+              stream_is = ap (next_stream_number S) b.count ∙ sym (rw (eq-eqb id id refl) refl);
               octets_are = λ number. ap (λ (t : StreamHistory). t.octets) (sym (new number));
               text_is = λ number. no_text (rules_in S s.answers)
                   ∙ sym (no_text (rules_in S (h.stream n).answers));
@@ -196,7 +202,8 @@ module _ (S : Setup) (written : List ℕ)
                   (rules_in S (h.stream n).answers);
             });
         numbers = numbers_begun S h id true (λ is. room) b.numbers;
-        shows = more_lines S written h (with_begun h id (number_in S h.begun) true) d.text n
+        shows = more_lines S written h (with_begun h id (next_stream_number S h.begun) true) d.text
+            n
             (begin_lines s.flow opens) [] [] b.shows lines
             (λ m number apart. refl) (λ number r o t. rw (append-nil r, append-nil o) t);
       })
@@ -234,11 +241,12 @@ module _ (S : Setup) (written : List ℕ)
   on_delivered : (a : Answers) (h : History) (d : Dump) (id : ℕ) (octets : List ℕ)
       (o : Option Connection) →
       slice_get d.connections (id / 2) ≡ o →
-      IfSome o (λ c. IsAnswered S a (side_of id) octets d.arrival c) → AreShown S written h d →
+      IfSome o (λ c. AnswersAreOfCalls S a (side_of id) octets d.arrival c) → AreShown S written h d
+      →
       AreShown S written (with_stream h (h.stream_of id)
-      (read_on a octets (h.stream (h.stream_of id)))) (delivered_in S a d id octets o)
+      (with_octets a octets (h.stream (h.stream_of id)))) (dump_after_octets S a d id octets o)
   on_delivered a h d id octets None is answered b =
-      on_nothing h (read_on a octets (h.stream (h.stream_of id))) d id is b
+      on_nothing h (with_octets a octets (h.stream (h.stream_of id))) d id is b
   on_delivered a h d id octets (Some c) is answered b = record {
     count = b.count;
     halves = halves_on S h behind d.connections id c
@@ -264,16 +272,16 @@ module _ (S : Setup) (written : List ℕ)
       n = h.stream_of id
 
       next : StreamHistory
-      next = read_on a octets (h.stream n)
+      next = with_octets a octets (h.stream n)
 
       behind : History
       behind = with_stream h n next
 
-      calls : Exchanged
-      calls = calls_behind S a (side_of id) octets d.arrival c
+      calls : ExchangeView
+      calls = calls_after_octets S a (side_of id) octets d.arrival c
 
       lines : List ℕ
-      lines = delivered_lines S a (side_of id) octets d.arrival c
+      lines = lines_of_delivered S a (side_of id) octets d.arrival c
 
       k : HasHalf S h id s
       k = search (arith, own_half)
@@ -318,8 +326,8 @@ module _ (S : Setup) (written : List ℕ)
   on_closed : (h : History) (d : Dump) (id : ℕ) (cause : CloseCause) (o : Option Connection) →
       slice_get d.connections (id / 2) ≡ o →
       AreShown S written h d → AreShown S written
-      (with_stream h (h.stream_of id) (closed (h.stream (h.stream_of id))))
-      (closed_in S d id cause o)
+      (with_stream h (h.stream_of id) (with_close (h.stream (h.stream_of id))))
+      (dump_after_close S d id cause o)
   on_closed h d id cause None is b = search (arith, on_nothing)
   on_closed h d id cause (Some c) is b = record {
     count = b.count;
@@ -344,7 +352,7 @@ module _ (S : Setup) (written : List ℕ)
       n = h.stream_of id
 
       next : StreamHistory
-      next = closed (h.stream n)
+      next = with_close (h.stream n)
 
       behind : History
       behind = with_stream h n next
@@ -370,9 +378,9 @@ module _ (S : Setup) (written : List ℕ)
           IsDumped S (behind.stream n) (r ++ []) (o ++ closing R s.octets)
       here number r o t = search (arith, k, s, stream_at, next, append-nil, never)
 
-  pub on_event : (a : Answers) (h : History) (d : Dump) (e : Event) → Answered S a d e →
+  pub on_event : (a : Answers) (h : History) (d : Dump) (e : Event) → AnswersFitEvent S a d e →
       AreShown S written h d →
-      AreShown S written (happened S a h e) (stepped S a d e)
+      AreShown S written (history_after_event S a h e) (dump_after_event S a d e)
   on_event a h d (Opens id flow) answered b = search (arith, on_opened)
   on_event a h d (Begins id start) answered b = search (arith, on_begun)
   on_event a h d (Delivers id octets) answered b = search (arith, on_delivered)
@@ -386,8 +394,8 @@ module _ (S : Setup) (written : List ℕ)
       AreShown S written (history S h d events behind leads) behind
   on_events [] h d behind leads b = search (arith)
   on_events (e ∷ es) h d behind leads b =
-      on_events es (happened S leads.1.answers h e) leads.0 behind leads.2
-      (subst (AreShown S written (happened S leads.1.answers h e)) (sym leads.1.is)
+      on_events es (history_after_event S leads.1.answers h e) leads.0 behind leads.2
+      (subst (AreShown S written (history_after_event S leads.1.answers h e)) (sym leads.1.is)
       (on_event leads.1.answers h d e leads.1.answered b))
 
   -- ---- before a capture is read

@@ -5,41 +5,42 @@ use Rattle.std.proofs.lemmas.List.{take_all, take-append-drop}
 use Rattle.std.proofs.lemmas.Bool.{and_from, and_parts, le-leb, leb-true, eqb-true, eq-eqb}
 use Rattle.std.proofs.lemmas.Slice.Eq.{bytes_eq-Decides}
 use Rattle.std.specs.Io.KnownBytes.{Appends, Keeps}
-use Rattle.giop_conversation.specs.Tags.{lead, with_tags, without_tags}
-use Rattle.giop_conversation.specs.TaggedText.{is_due, line_size, stopped_at, Stands, StandsIn, due_behind, PutSome, PutNothing, PutLine, PutFront}
-use Rattle.giop_conversation.specs.TaggedState.{identity, body_of, text_of, is_clean, is_tagged, shown}
-use Rattle.giop_conversation.proofs.TagLemmas.{tagged_append, ends_append, tagged_line, ends_take, untagged_tagged, untagged_few, passed}
+use Rattle.giop_conversation.specs.Tags.{tag_if_first, with_tags, without_tags}
+use Rattle.giop_conversation.specs.TaggedText.{is_tag_due, first_line_size, tagged_until_due, StandsTagged, StandsTaggedIn, tag_due_after, HasPutCounted, CountedPutFailed, HasPutTagged, TaggedPutFailed}
+use Rattle.giop_conversation.specs.TaggedState.{start_identity, octets_since_tag, text_since_tag, is_due_tag_whole, is_tagged, written_through}
+use Rattle.giop_conversation.proofs.TagLemmas.{tagged_append, ends_append, tagged_line, ends_take, untagged_tagged, untagged_few, skip_if_first}
 
 -- ---- what is begun of a tag
 
-whole_tag : (b : Bool) (tag : List ℕ) → take (length tag - 0) (lead b tag) ≡ lead b tag
+whole_tag : (b : Bool) (tag : List ℕ) → take (length tag - 0) (tag_if_first b tag) ≡ tag_if_first b
+    tag
 whole_tag true tag = search (arith, take_all)
 whole_tag false tag = search (arith, take_all)
 
 no_tag_begun : (b : Bool) (tag : List ℕ) (due : ℕ) → (b ≡ true → due ≡ length tag) →
-    take (length tag - due) (lead b tag) ≡ []
+    take (length tag - due) (tag_if_first b tag) ≡ []
 no_tag_begun true tag due is = search (arith)
 no_tag_begun false tag due is = search (arith, take_all)
 
 begun_is_few : (b : Bool) (tag : List ℕ) (n : ℕ) →
-    length (take n (lead b tag)) ≤ passed b (length tag)
+    length (take n (tag_if_first b tag)) ≤ skip_if_first b (length tag)
 begun_is_few true tag n = search (arith, length-take)
 begun_is_few false tag n = search (arith, take, take_all)
 
 -- if nothing of the next tag was written, what was written of a text is the text with tags
-pub stopped_ended : (tag text : List ℕ) (due : ℕ) → (is_due text ≡ true → due ≡ length tag) →
-    stopped_at tag text due ≡ with_tags tag text
-unfolding stopped_at
+pub stopped_ended : (tag text : List ℕ) (due : ℕ) → (is_tag_due text ≡ true → due ≡ length tag) →
+    tagged_until_due tag text due ≡ with_tags tag text
+unfolding tagged_until_due
 stopped_ended tag text due is = search (arith, no_tag_begun, append-nil)
 
 -- more text after a text that ended
-pub stopped_more : (tag text more : List ℕ) (due : ℕ) → is_due text ≡ true →
-    stopped_at tag (text ++ more) due ≡ with_tags tag text ++ stopped_at tag more due
-unfolding stopped_at
+pub stopped_more : (tag text more : List ℕ) (due : ℕ) → is_tag_due text ≡ true →
+    tagged_until_due tag (text ++ more) due ≡ with_tags tag text ++ tagged_until_due tag more due
+unfolding tagged_until_due
 stopped_more tag text more due ended =
     rw (tagged_append true tag text more, ends_append true text more, ended)
     (append_assoc (with_tags tag text) (with_tags tag more) (take (length tag - due)
-    (lead (is_due more) tag)))
+    (tag_if_first (is_tag_due more) tag)))
 
 -- ---- octets of a tag, and of a line
 
@@ -56,9 +57,10 @@ tag_behind w w' before tag text due n within few is is' =
     ∙ ap (λ t. before ++ t) (append_assoc (with_tags tag text) front next))
 
 pub tag_step : (w w' before tag : List ℕ) (since : ℕ) (text : List ℕ) (due n : ℕ) →
-    Stands w before tag since text due → 0 < due → n ≤ due →
-    w' ≡ w ++ take n (drop (length tag - due) tag) → Stands w' before tag (since + n) text (due - n)
-unfolding stopped_at
+    StandsTagged w before tag since text due → 0 < due → n ≤ due →
+    w' ≡ w ++ take n (drop (length tag - due) tag) → StandsTagged w' before tag (since + n) text
+    (due - n)
+unfolding tagged_until_due
 tag_step w w' before tag since text due n stands some few is = search (
   arith,
   length-append,
@@ -68,32 +70,40 @@ tag_step w w' before tag since text due n stands some few is = search (
 )
 
 -- the tag that is due after octets of a line
-abbrev pub due_at : List ℕ → List ℕ → ℕ → ℕ
-due_at tag octets n = due_behind tag (slice_index octets (n - 1))
+abbrev pub due_after_first : (tag octets : List ℕ) (n : ℕ) → ℕ
+due_after_first tag octets n = tag_due_after tag (slice_index octets (n - 1))
 
 pub due_is : (tag octets text : List ℕ) (n : ℕ) → 0 < n → n ≤ length octets →
-    (due_at tag octets n ≤ length tag)
-    × ((is_due (text ++ take n octets) ≡ true → due_at tag octets n ≡ length tag)
-    × (is_due (text ++ take n octets) ≡ false → due_at tag octets n ≡ 0))
+    (due_after_first tag octets n ≤ length tag)
+    × ((is_tag_due (text ++ take n octets) ≡ true → due_after_first tag octets n ≡ length tag)
+    × (is_tag_due (text ++ take n octets) ≡ false → due_after_first tag octets n ≡ 0))
 due_is tag octets text n some within = search (arith, ends_append, take, ends_take, slice_index)
 
-line_text : (tag text octets : List ℕ) (n : ℕ) → 0 < n → n ≤ line_size octets → n ≤ length octets →
-    stopped_at tag (text ++ take n octets) (due_at tag octets n) ≡ stopped_at tag text 0
+line_text : (tag text octets : List ℕ) (n : ℕ) → 0 < n → n ≤ first_line_size octets →
+    n ≤ length octets →
+    tagged_until_due tag (text ++ take n octets) (due_after_first tag octets n) ≡ tagged_until_due
+    tag text 0
     ++ take n octets
-unfolding stopped_at
+unfolding tagged_until_due
 line_text tag text octets n some line within =
-    let due = due_at tag octets n in
+    let due = due_after_first tag octets n in
     let ends = (due_is tag octets text n some within).1.0 in
-    rw (no_tag_begun (is_due (text ++ take n octets)) tag due ends, whole_tag (is_due text) tag)
+    rw (
+      no_tag_begun (is_tag_due (text ++ take n octets)) tag due ends,
+      whole_tag (is_tag_due text)
+          tag,
+    )
     (append-nil (with_tags tag (text ++ take n octets))
     ∙ (tagged_append true tag text (take n octets)
-    ∙ (ap (λ t. with_tags tag text ++ t) (tagged_line (is_due text) tag octets n some line)
-    ∙ sym (append_assoc (with_tags tag text) (lead (is_due text) tag) (take n octets)))))
+    ∙ (ap (λ t. with_tags tag text ++ t) (tagged_line (is_tag_due text) tag octets n some line)
+    ∙ sym (append_assoc (with_tags tag text) (tag_if_first (is_tag_due text) tag)
+    (take n octets)))))
 
 pub line_step : (w w' before tag : List ℕ) (since : ℕ) (text octets : List ℕ) (n : ℕ) →
-    Stands w before tag since text 0 → 0 < n → n ≤ line_size octets → n ≤ length octets →
+    StandsTagged w before tag since text 0 → 0 < n → n ≤ first_line_size octets → n ≤ length octets
+    →
     w' ≡ w ++ take n octets →
-    Stands w' before tag (since + n) (text ++ take n octets) (due_at tag octets n)
+    StandsTagged w' before tag (since + n) (text ++ take n octets) (due_after_first tag octets n)
 line_step w w' before tag since text octets n stands some line within is = search (
   arith,
   line_text,
@@ -108,9 +118,9 @@ line_step w w' before tag since text octets n stands some line within is = searc
 
 pub tag_step_in : (a b : Option (List ℕ)) (before tag : List ℕ) (since : ℕ) (text : List ℕ)
     (due n : ℕ) →
-    StandsIn a before tag since text due → 0 < due → n ≤ due →
+    StandsTaggedIn a before tag since text due → 0 < due → n ≤ due →
     Appends a b (take n (drop (length tag - due) tag)) →
-    StandsIn b before tag (since + n) text (due - n)
+    StandsTaggedIn b before tag (since + n) text (due - n)
 tag_step_in None b before tag since text due n stands some few appends = absurd stands
 tag_step_in (Some w) None before tag since text due n stands some few appends = absurd appends
 tag_step_in (Some w) (Some w') before tag since text due n stands some few appends =
@@ -118,9 +128,10 @@ tag_step_in (Some w) (Some w') before tag since text due n stands some few appen
 
 pub line_step_in : (a b : Option (List ℕ)) (before tag : List ℕ) (since : ℕ)
     (text octets : List ℕ) (n : ℕ) →
-    StandsIn a before tag since text 0 → 0 < n → n ≤ line_size octets → n ≤ length octets →
+    StandsTaggedIn a before tag since text 0 → 0 < n → n ≤ first_line_size octets →
+    n ≤ length octets →
     Appends a b (take n octets) →
-    StandsIn b before tag (since + n) (text ++ take n octets) (due_at tag octets n)
+    StandsTaggedIn b before tag (since + n) (text ++ take n octets) (due_after_first tag octets n)
 line_step_in None b before tag since text octets n stands some line within appends = absurd stands
 line_step_in (Some w) None before tag since text octets n stands some line within appends =
     absurd appends
@@ -128,7 +139,8 @@ line_step_in (Some w) (Some w') before tag since text octets n stands some line 
     line_step w w' before tag since text octets n stands some line within appends
 
 pub kept_in : (a b : Option (List ℕ)) (before tag : List ℕ) (since : ℕ) (text : List ℕ) (due : ℕ) →
-    StandsIn a before tag since text due → Keeps a b → StandsIn b before tag since text due
+    StandsTaggedIn a before tag since text due → Keeps a b → StandsTaggedIn b before tag since text
+    due
 kept_in None b before tag since text due stands keeps = absurd stands
 kept_in (Some w) None before tag since text due stands keeps = absurd keeps
 kept_in (Some w) (Some w') before tag since text due stands keeps = rw keeps stands
@@ -142,10 +154,10 @@ take_take (suc n) (suc m) (x ∷ xs) few = search (arith, take_take n m xs (omeg
 -- a put of octets of one line
 pub put_line_ok : (a b : Option (List ℕ)) (tag octets : List ℕ) (since since' due due' n : ℕ) →
     due ≡ 0 →
-    0 < length octets → line_size octets ≤ length octets → 0 < line_size octets →
-    PutSome a b (take (line_size octets) octets) since since' n →
-    due' ≡ due_behind tag (slice_index octets (n - 1)) →
-    PutLine a b tag octets since since' due due' n
+    0 < length octets → first_line_size octets ≤ length octets → 0 < first_line_size octets →
+    HasPutCounted a b (take (first_line_size octets) octets) since since' n →
+    due' ≡ tag_due_after tag (slice_index octets (n - 1)) →
+    HasPutTagged a b tag octets since since' due due' n
 put_line_ok a b tag octets since since' due due' n none some within line put is = search (
   arith,
   length-take,
@@ -154,32 +166,33 @@ put_line_ok a b tag octets since since' due due' n none some within line put is 
 )
 
 pub put_line_err : (a b : Option (List ℕ)) (tag : List ℕ) (since since' due : ℕ) → due ≡ 0 →
-    PutNothing a b since since' → PutFront a b tag since since' due due
+    CountedPutFailed a b since since' → TaggedPutFailed a b tag since since' due due
 put_line_err a b tag since since' due none put = search (arith, kept_in)
 
 pub put_after_tag : (a b d : Option (List ℕ)) (tag octets : List ℕ)
     (since since' since'' due due' due'' n : ℕ) →
-    ((before text : List ℕ) → StandsIn a before tag since text due →
-    StandsIn b before tag since' text due') →
-    PutLine b d tag octets since' since'' due' due'' n →
-    PutLine a d tag octets since since'' due due'' n
+    ((before text : List ℕ) → StandsTaggedIn a before tag since text due →
+    StandsTaggedIn b before tag since' text due') →
+    HasPutTagged b d tag octets since' since'' due' due'' n →
+    HasPutTagged a d tag octets since since'' due due'' n
 put_after_tag a b d tag octets since since' since'' due due' due'' n first put = search (arith)
 
 pub failed_after_tag : (a b d : Option (List ℕ)) (tag : List ℕ)
     (since since' since'' due due' due'' : ℕ) →
-    ((before text : List ℕ) → StandsIn a before tag since text due →
-    StandsIn b before tag since' text due') →
-    PutFront b d tag since' since'' due' due'' → PutFront a d tag since since'' due due''
+    ((before text : List ℕ) → StandsTaggedIn a before tag since text due →
+    StandsTaggedIn b before tag since' text due') →
+    TaggedPutFailed b d tag since' since'' due' due'' → TaggedPutFailed a d tag since since'' due
+    due''
 failed_after_tag a b d tag since since' since'' due due' due'' first put = search (arith)
 
 pub put_both : {E : Type 0} (r : Result ℕ E) (a b d : Option (List ℕ)) (tag octets : List ℕ)
     (since since' since'' due due' due'' : ℕ) →
-    ((before text : List ℕ) → StandsIn a before tag since text due →
-    StandsIn b before tag since' text due') →
-    MatchResult r (λ n. PutLine b d tag octets since' since'' due' due'' n)
-    (λ _. PutFront b d tag since' since'' due' due'') →
-    MatchResult r (λ n. PutLine a d tag octets since since'' due due'' n)
-    (λ _. PutFront a d tag since since'' due due'')
+    ((before text : List ℕ) → StandsTaggedIn a before tag since text due →
+    StandsTaggedIn b before tag since' text due') →
+    MatchResult r (λ n. HasPutTagged b d tag octets since' since'' due' due'' n)
+    (λ _. TaggedPutFailed b d tag since' since'' due' due'') →
+    MatchResult r (λ n. HasPutTagged a d tag octets since since'' due due'' n)
+    (λ _. TaggedPutFailed a d tag since since'' due due'')
 put_both (Ok n) a b d tag octets since since' since'' due due' due'' first put =
     put_after_tag a b d tag octets since since' since'' due due' due'' n first put
 put_both (Err e) a b d tag octets since since' since'' due due' due'' first put =
@@ -188,24 +201,24 @@ put_both (Err e) a b d tag octets since since' since'' due due' due'' first put 
 -- ---- the text that is read again from the octets below
 
 text_back : (tag text : List ℕ) (due : ℕ) →
-    without_tags (length tag) (stopped_at tag text due) ≡ text
-unfolding stopped_at
+    without_tags (length tag) (tagged_until_due tag text due) ≡ text
+unfolding tagged_until_due
 text_back tag text due =
-    untagged_tagged true tag text (take (length tag - due) (lead (is_due text) tag))
+    untagged_tagged true tag text (take (length tag - due) (tag_if_first (is_tag_due text) tag))
     ∙ (ap (λ rest. text ++ rest)
-    (untagged_few _ _ _ (begun_is_few (is_due text) tag (length tag - due))) ∙ append-nil text)
+    (untagged_few _ _ _ (begun_is_few (is_tag_due text) tag (length tag - due))) ∙ append-nil text)
 
-record IsRead (w before tag : List ℕ) (since : ℕ) (text : List ℕ) (due : ℕ) : Type 0 where
+record IsReadBack (w before tag : List ℕ) (since : ℕ) (text : List ℕ) (due : ℕ) : Type 0 where
   front : take (length w - since) w ≡ before
-  body : body_of since w ≡ stopped_at tag text due
-  back : text_of tag since w ≡ text
+  body : octets_since_tag since w ≡ tagged_until_due tag text due
+  back : text_since_tag tag since w ≡ text
   size : since ≤ length w
 
 is_read : (w before tag : List ℕ) (since : ℕ) (text : List ℕ) (due : ℕ) →
-    Stands w before tag since text due →
-    IsRead w before tag since text due
+    StandsTagged w before tag since text due →
+    IsReadBack w before tag since text due
 is_read w before tag since text due s =
-    let all = stopped_at tag text due in
+    let all = tagged_until_due tag text due in
     let l : length w ≡ length before + length all = ap length s.whole ∙ length-append before all in
     let start : length w - since ≡ length before = omega (arith, l, s.counted) in
     let body : drop (length w - since) w ≡ all = rw start (ap (drop (length before)) s.whole
@@ -226,43 +239,43 @@ zero_or true due is inside = absurd (cc inside)
 zero_or false due is inside = eqb-true due 0 is
 
 tagged_is : (w before tag : List ℕ) (since : ℕ) (text : List ℕ) (due failures : ℕ) →
-    Stands w before tag since text due → is_clean tag due failures text ≡ true →
+    StandsTagged w before tag since text due → is_due_tag_whole tag due failures text ≡ true →
     is_tagged tag due since failures w ≡ true
 unfolding is_tagged
 tagged_is w before tag since text due failures s clean =
     let r = is_read w before tag since text due s in
     rw (r.back, r.body) (
     and_from _ _ (and_from _ _ (le-leb since (length w) r.size) (le-leb due (length tag) s.within))
-    (and_from _ _ ((bytes_eq-Decides (stopped_at tag text due)
-    (stopped_at tag text due)).1 refl)
-    (and_from _ _ (or_zero (is_due text) due s.inside) clean)))
+    (and_from _ _ ((bytes_eq-Decides (tagged_until_due tag text due)
+    (tagged_until_due tag text due)).1 refl)
+    (and_from _ _ (or_zero (is_tag_due text) due s.inside) clean)))
 
 pub shown_is : (w before tag : List ℕ) (since : ℕ) (text : List ℕ) (due failures : ℕ) →
-    Stands w before tag since text due → is_clean tag due failures text ≡ true →
-    shown tag due since failures w ≡ Some (identity before tag ++ text)
-unfolding shown
+    StandsTagged w before tag since text due → is_due_tag_whole tag due failures text ≡ true →
+    written_through tag due since failures w ≡ Some (start_identity before tag ++ text)
+unfolding written_through
 shown_is w before tag since text due failures s clean = search (arith, is_read, tagged_is)
 
-pub record Shows (w tag : List ℕ) (since due failures : ℕ) (s : List ℕ) : Type 0 where
+pub record IsWrittenThrough (w tag : List ℕ) (since due failures : ℕ) (s : List ℕ) : Type 0 where
   pub before : List ℕ
   pub text : List ℕ
-  pub stands : Stands w before tag since text due
-  pub clean : is_clean tag due failures text ≡ true
-  pub is : s ≡ identity before tag ++ text
+  pub stands : StandsTagged w before tag since text due
+  pub clean : is_due_tag_whole tag due failures text ≡ true
+  pub is : s ≡ start_identity before tag ++ text
 
 value_of : Option (List ℕ) → List ℕ
 value_of None = []
 value_of (Some s) = s
 
-record HasParts (w tag : List ℕ) (since due failures : ℕ) : Type 0 where
+record IsTaggedWritten (w tag : List ℕ) (since due failures : ℕ) : Type 0 where
   size : since ≤ length w
   within : due ≤ length tag
-  body : body_of since w ≡ stopped_at tag (text_of tag since w) due
-  inside : is_due (text_of tag since w) ≡ false → due ≡ 0
-  clean : is_clean tag due failures (text_of tag since w) ≡ true
+  body : octets_since_tag since w ≡ tagged_until_due tag (text_since_tag tag since w) due
+  inside : is_tag_due (text_since_tag tag since w) ≡ false → due ≡ 0
+  clean : is_due_tag_whole tag due failures (text_since_tag tag since w) ≡ true
 
 has_parts : (w tag : List ℕ) (since due failures : ℕ) → is_tagged tag due since failures w ≡ true →
-    HasParts w tag since due failures
+    IsTaggedWritten w tag since due failures
 unfolding is_tagged
 has_parts w tag since due failures holds = search (
   arith,
@@ -273,17 +286,18 @@ has_parts w tag since due failures holds = search (
 )
 
 pub shows : (w tag : List ℕ) (since due failures : ℕ) (s : List ℕ) →
-    shown tag due since failures w ≡ Some s →
-    Shows w tag since due failures s
-unfolding shown value_of
+    written_through tag due since failures w ≡ Some s →
+    IsWrittenThrough w tag since due failures s
+unfolding written_through value_of
 shows w tag since due failures s some = by (is_tagged tag due since failures w) refl
   where
-    by : (b : Bool) → is_tagged tag due since failures w ≡ b → Shows w tag since due failures s
+    by : (b : Bool) → is_tagged tag due since failures w ≡ b → IsWrittenThrough w tag since due
+        failures s
     by false fails = search (arith)
     by true holds =
         let h = has_parts w tag since due failures holds in
         let start = length w - since in
-        let text = text_of tag since w in
+        let text = text_since_tag tag since w in
         let l = length-drop start w in
         record {
           before = take start w;
@@ -301,7 +315,7 @@ shows w tag since due failures s some = by (is_tagged tag due since failures w) 
 -- ---- what a call of writing did
 
 -- the octets before the tag, the tag and the text are those that the identity begins with
-pub record AreSame (before tag text before' tag' text' : List ℕ) : Type 0 where
+pub record AreSameStarts (before tag text before' tag' text' : List ℕ) : Type 0 where
   pub same_before : before' ≡ before
   pub same_tag : tag' ≡ tag
   pub same_text : text' ≡ text
@@ -313,7 +327,7 @@ first_is (x ∷ xs) = x
 same_parts : (before tag text before' tag' text' : List ℕ) → length before' ≡ length before →
     length tag' ≡ length tag →
     (before' ++ tag') ++ text' ≡ (before ++ tag) ++ text →
-    AreSame before tag text before' tag' text'
+    AreSameStarts before tag text before' tag' text'
 same_parts before tag text before' tag' text' l t e =
     let e' : before' ++ (tag' ++ text') ≡ before ++ (tag ++ text) =
     sym (append_assoc before' tag' text') ∙ (e ∙ append_assoc before tag text) in
@@ -328,7 +342,7 @@ same_parts before tag text before' tag' text' l t e =
     }
 
 pub identity_is : (before tag text before' tag' text' : List ℕ) →
-    identity before' tag' ++ text' ≡ identity before tag ++ text →
-    AreSame before tag text before' tag' text'
+    start_identity before' tag' ++ text' ≡ start_identity before tag ++ text →
+    AreSameStarts before tag text before' tag' text'
 unfolding first_is
 identity_is before tag text before' tag' text' e = search (arith, drop, same_parts)

@@ -8,7 +8,7 @@ use Rattle.std.proofs.lemmas.Bool.{cases_lt, leb-true, leb-false, le-ltb}
 use Rattle.httpdate.specs.Calendar.{days_in_year, days_of_years, days_in_month, days_of_months}
 use Rattle.httpdate.proofs.CalendarLemmas.{days_of_years_closed, days_of_months_closed}
 use Rattle.std.proofs.lemmas.Fmt.{length-decimal-le_wide}
-use Rattle.giop_conversation.specs.Times.{last_within, years, years_of, months_of, last_digits, second, day, day_text, clock_text, second_text, instant_text, time_text}
+use Rattle.giop_conversation.specs.Times.{greatest_within, years_to_9999, whole_years_of, whole_months_of, last_digits, nanoseconds_per_second, nanoseconds_per_day, day_text, time_of_day_text, date_and_second_text, instant_text, time_text}
 
 rises : (f : ℕ → ℕ) → ((n : ℕ) → f n ≤ f (suc n)) → (k more : ℕ) → f k ≤ f (more + k)
 rises f up k zero = search (arith)
@@ -20,8 +20,8 @@ rises_to f up k later low =
     rw same at (rises f up k (later - k))
 
 last_is : (f : ℕ → ℕ) → ((n : ℕ) → f n ≤ f (suc n)) → (most k n : ℕ) → k ≤ most → f k ≤ n →
-    (k < most → n < f (suc k)) → last_within f most n ≡ k
-unfolding last_within
+    (k < most → n < f (suc k)) → greatest_within f most n ≡ k
+unfolding greatest_within
 last_is f up zero k n few low high = omega (arith, few)
 last_is f up (suc most) k n few low high =
     elim (cases_lt k (suc most)) [
@@ -30,8 +30,9 @@ last_is f up (suc most) k n few low high =
       | inr whole ↦ at_most (nat_le (f (suc most)) n) refl (omega (arith, few, whole))
     ]
   where
-    before : k < suc most → (b : Bool) → nat_le (f (suc most)) n ≡ b → last_within f most n ≡ k →
-        last_within f (suc most) n ≡ k
+    before : k < suc most → (b : Bool) → nat_le (f (suc most)) n ≡ b → greatest_within f most n
+        ≡ k →
+        greatest_within f (suc most) n ≡ k
     before less true is rest =
         absurd (omega (
           arith,
@@ -43,7 +44,7 @@ last_is f up (suc most) k n few low high =
     before less false is rest = rw is rest
 
     at_most : (b : Bool) → nat_le (f (suc most)) n ≡ b → k ≡ suc most →
-        last_within f (suc most) n ≡ k
+        greatest_within f (suc most) n ≡ k
     at_most true is same = rw is (sym same)
     at_most false is same = search (arith, leb-false)
 
@@ -78,15 +79,16 @@ pub years_closed : (n : ℕ) →
     365 * (n + 369) + (n + 369) / 4 - (n + 369) / 100 + (n + 369) / 400 - 134774 ≡ days_of_years n
 years_closed n = search (arith, days_of_years_closed)
 
-pub year_found : (days passed left : ℕ) → passed < years → days_of_years passed + left ≡ days →
+pub year_found : (days passed left : ℕ) → passed < years_to_9999 → days_of_years passed + left
+    ≡ days →
     left < days_in_year (1970 + passed) →
-    (days < days_of_years years) × (passed ≡ years_of days) × (passed < years)
+    (days < days_of_years years_to_9999) × (passed ≡ whole_years_of days) × (passed < years_to_9999)
     × (left ≡ days - days_of_years passed) × (left < days_in_year (1970 + passed))
 year_found days passed left some is short =
     let more = year_more passed in
-    let all = rises_to days_of_years years_rise (suc passed) years some in (
+    let all = rises_to days_of_years years_rise (suc passed) years_to_9999 some in (
       omega (arith, more, all, is, short),
-      sym (last_is days_of_years years_rise (years - 1) passed days (omega (arith, some))
+      sym (last_is days_of_years years_rise (years_to_9999 - 1) passed days (omega (arith, some))
           (omega (arith, is)) (λ _. omega (arith, more, is, short))),
       some,
       omega (arith, is),
@@ -96,7 +98,7 @@ year_found days passed left some is short =
 pub month_found : (year days passed left : ℕ) → passed ≤ 11 →
     days_of_months year passed + left ≡ days →
     (passed < 11 → left < days_in_month year (passed + 1)) →
-    (passed ≡ months_of year days) × (left ≡ days - days_of_months year passed)
+    (passed ≡ whole_months_of year days) × (left ≡ days - days_of_months year passed)
 month_found year days passed left some is short =
     let more = month_more year passed in (
       sym (last_is (days_of_months year) (months_rise year) 11 passed days some (omega (arith, is))
@@ -208,54 +210,60 @@ unfolding last_digits
 nine_digits n text = search (arith, both)
 
 -- the first second of 1970
-pub first_day : (0 < days_of_years years) × (0 ≡ years_of 0)
+pub first_day : (0 < days_of_years years_to_9999) × (0 ≡ whole_years_of 0)
 unfolding days_of_years
 first_day =
     let found = year_found 0 0 0 (omega arith) refl (omega arith) in (found.0, found.1)
 
 first_date : (passed : ℕ) → passed ≡ 0 →
     day_text passed (0 - days_of_years passed) ≡ codes "1970-01-01"
-unfolding day_text last_within days_of_months days_of_years
+unfolding day_text greatest_within days_of_months days_of_years
 first_date passed is = rw is refl
 
-pub first_second : second_text 0 ≡ codes "1970-01-01T00:00:00."
-unfolding second_text clock_text
+pub first_second : date_and_second_text 0 ≡ codes "1970-01-01T00:00:00."
+unfolding date_and_second_text time_of_day_text
 first_second = search (arith, first_date, first_day)
 
 -- a second by the year and the day that it is in
-pub second_is : (seconds passed days : ℕ) → passed ≡ years_of (seconds / 86_400) →
+pub second_is : (seconds passed days : ℕ) → passed ≡ whole_years_of (seconds / 86_400) →
     days ≡ seconds / 86_400 - days_of_years passed →
-    (day_text passed days ++ (codes "T" ++ (clock_text (seconds % 86_400) ++ codes "."))) ++ []
-    ≡ second_text seconds
-unfolding second_text
+    (day_text passed days ++ (codes "T" ++ (time_of_day_text (seconds % 86_400) ++ codes ".")))
+    ++ []
+    ≡ date_and_second_text seconds
+unfolding date_and_second_text
 second_is seconds passed days year day = search (arith, append-nil)
 
 -- a time by its second
-pub time_is : (n seconds : ℕ) → seconds ≡ n / second →
-    nat_lt (seconds / 86_400) (days_of_years years) ≡ true →
-    time_text (Some n) ≡ second_text seconds ++ (last_digits 9 (n % second) ++ codes "Z")
+pub time_is : (n seconds : ℕ) → seconds ≡ n / nanoseconds_per_second →
+    nat_lt (seconds / 86_400) (days_of_years years_to_9999) ≡ true →
+    time_text (Some n) ≡ date_and_second_text seconds ++ (last_digits 9 (n % nanoseconds_per_second)
+    ++ codes "Z")
 unfolding time_text instant_text
 time_is n seconds is early = search (arith)
 
-pub time_put : (n seconds : ℕ) (octets text : List ℕ) → seconds ≡ n / second →
-    nat_lt (seconds / 86_400) (days_of_years years) ≡ true → octets ≡ second_text seconds →
-    octets ++ (last_digits 9 (n % second) ++ (codes "Z" ++ text)) ≡ time_text (Some n) ++ text
+pub time_put : (n seconds : ℕ) (octets text : List ℕ) → seconds ≡ n / nanoseconds_per_second →
+    nat_lt (seconds / 86_400) (days_of_years years_to_9999) ≡ true → octets ≡ date_and_second_text
+    seconds →
+    octets ++ (last_digits 9 (n % nanoseconds_per_second) ++ (codes "Z" ++ text))
+    ≡ time_text (Some n) ++ text
 unfolding last_digits
 time_put n seconds octets text is early shown =
     rw (shown, time_is n seconds is early)
-    (sym (append_assoc (second_text seconds) (last_digits 9 (n % second) ++ codes "Z") text))
+    (sym (append_assoc (date_and_second_text seconds) (last_digits 9 (n % nanoseconds_per_second)
+    ++ codes "Z") text))
 
 -- a time after the last year of four digits is written as `-`
-pub none_put : (n seconds : ℕ) → seconds ≡ n / second →
-    nat_lt (seconds / 86_400) (days_of_years years) ≡ false → time_text (Some n) ≡ codes "-"
+pub none_put : (n seconds : ℕ) → seconds ≡ n / nanoseconds_per_second →
+    nat_lt (seconds / 86_400) (days_of_years years_to_9999) ≡ false → time_text (Some n) ≡ codes "-"
 unfolding time_text
 none_put n seconds is late = search (arith)
 
 -- so is a time of 2^64 seconds or more, which is after that year
-pub late_text : (n : ℕ) → 18446744073709551616 ≤ n / second → time_text (Some n) ≡ codes "-"
+pub late_text : (n : ℕ) → 18446744073709551616 ≤ n / nanoseconds_per_second → time_text (Some n)
+    ≡ codes "-"
 unfolding time_text
 late_text n late = search (arith, years_short, nat_lt, le-ltb)
 
 -- seconds of a span have at most 30 digits
-pub seconds_short : (n : ℕ) → n < 2 ^ 128 → length (decimal (n / second)) ≤ 30
+pub seconds_short : (n : ℕ) → n < 2 ^ 128 → length (decimal (n / nanoseconds_per_second)) ≤ 30
 seconds_short n fits = search (arith, length-decimal-le_wide)

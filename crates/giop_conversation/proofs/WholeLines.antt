@@ -14,15 +14,15 @@ use Rattle.std.proofs.lemmas.List.Folds.{list_any_at}
 use Rattle.std.proofs.lemmas.Bool.{eqb-true, false_from_ne_true, false≢true, cases_lt}
 use Rattle.std.specs.List.{list_any}
 use Rattle.std.specs.Io.KnownBytes.{Appends}
-use Rattle.giop_print.specs.Output.{counted, Wrote, WroteFront}
-use Rattle.giop_conversation.specs.TaggedText.{line_size, IsLine, StandsIn}
+use Rattle.giop_print.specs.Output.{saturating_next, Wrote, WroteFront}
+use Rattle.giop_conversation.specs.TaggedText.{first_line_size, IsOneLine, StandsTaggedIn}
 use Rattle.giop_conversation.specs.TaggedState.{tagging_log}
 use Rattle.giop_conversation.proofs.TagLemmas.{line_some}
-use Rattle.giop_conversation.proofs.TaggedLemmas.{due_at, tag_step_in, line_step_in}
+use Rattle.giop_conversation.proofs.TaggedLemmas.{due_after_first, tag_step_in, line_step_in}
 use Rattle.giop_conversation.proofs.TaggedPuts.{grows, clean_line, clean_failed}
 
 pub is_line : (xs front : List ℕ) (last : ℕ) → xs ≡ front ++ (last ∷ []) → (last == 10) ≡ true →
-    list_any (λ y. y == 10) front ≡ false → IsLine xs
+    list_any (λ y. y == 10) front ≡ false → IsOneLine xs
 is_line xs front last is ends none = search (
   arith,
   length-append,
@@ -43,13 +43,13 @@ no_bit true m n is = absurd (omega (arith, is))
 no_bit false m n is = (refl, omega (arith, is))
 
 -- a line stays a line if an octet that isn't LF comes before it
-longer : (x : ℕ) (ys : List ℕ) → (x == 10) ≡ false → IsLine ys → IsLine (x ∷ ys)
+longer : (x : ℕ) (ys : List ℕ) → (x == 10) ≡ false → IsOneLine ys → IsOneLine (x ∷ ys)
 longer x [] first rest = search (arith)
 longer x (y ∷ ys) first rest = search (arith, slice_index)
 
 -- if only the last octet is LF, the octets are a line
 only_last : (xs : List ℕ) (k : ℕ) → length xs ≡ k + 1 →
-    mask_l (map (λ x. x == 10) xs) ≡ 2 ^ k → IsLine xs
+    mask_l (map (λ x. x == 10) xs) ≡ 2 ^ k → IsOneLine xs
 only_last [] k size bits = absurd (omega (arith, size))
 only_last (x ∷ []) zero size bits = search (arith, one_bit)
 only_last (x ∷ []) (suc k) size bits = absurd (omega (arith, size))
@@ -60,35 +60,36 @@ only_last (x ∷ y ∷ ys) (suc k) size bits =
     longer x (y ∷ ys) parts.0 (only_last (y ∷ ys) k (omega (arith, size)) parts.1)
 
 -- octets without LF
-abbrev HasNone : List ℕ → Type 0
-HasNone = Each (λ x. (x == 10) ≡ false)
+abbrev HasNoLf : List ℕ → Type 0
+HasNoLf = Each (λ x. (x == 10) ≡ false)
 
-before_line : (front xs : List ℕ) → HasNone front → IsLine xs → IsLine (front ++ xs)
+before_line : (front xs : List ℕ) → HasNoLf front → IsOneLine xs → IsOneLine (front ++ xs)
 before_line [] xs none line = line
 before_line (x ∷ front) xs none line = search (arith, longer, before_line front xs none.1 line)
 
-block_before : (octets : List ℕ) (a : ℕ) → HasNone (take 16 (drop a octets)) →
-    IsLine (drop (a + 16) octets) → IsLine (drop a octets)
+block_before : (octets : List ℕ) (a : ℕ) → HasNoLf (take 16 (drop a octets)) →
+    IsOneLine (drop (a + 16) octets) → IsOneLine (drop a octets)
 block_before octets a none line =
     let rest = drop a octets in
-    subst IsLine (take-append-drop 16 rest)
+    subst IsOneLine (take-append-drop 16 rest)
     (before_line (take 16 rest) (drop 16 rest) none
-    (subst IsLine (sym (drop-drop 16 a octets)) line))
+    (subst IsOneLine (sym (drop-drop 16 a octets)) line))
 
 -- ---- three blocks that are compared at once
 
-abbrev either : ℕ → ℕ → ℕ
-either = act2 bit_or (s_int w8) (s_int w8) (s_int w8)
+abbrev bit_or_octets : ℕ → ℕ → ℕ
+bit_or_octets = act2 bit_or (s_int w8) (s_int w8) (s_int w8)
 
-abbrev marks : List ℕ → ℕ → List ℕ
-marks xs n = zip2 (act2 (mask eq) (s_int w8) (s_int w8) (s_int w8)) xs (replicate n 10)
+abbrev lf_masks : (xs : List ℕ) (n : ℕ) → List ℕ
+lf_masks xs n = zip2 (act2 (mask eq) (s_int w8) (s_int w8) (s_int w8)) xs (replicate n 10)
 
-abbrev marks_of : List ℕ → List ℕ → List ℕ → ℕ → List Bool
-marks_of xs ys zs n =
-    map (top 7) (zip2 either (zip2 either (marks xs n) (marks ys n)) (marks zs n))
+abbrev lf_marks_of_three : (xs ys zs : List ℕ) (n : ℕ) → List Bool
+lf_marks_of_three xs ys zs n =
+    map (top 7) (zip2 bit_or_octets (zip2 bit_or_octets (lf_masks xs n) (lf_masks ys n))
+    (lf_masks zs n))
 
 none_of : (s t u : Bool) →
-    top 7 (either (either (cond s 255 0) (cond t 255 0)) (cond u 255 0)) ≡ false →
+    top 7 (bit_or_octets (bit_or_octets (cond s 255 0) (cond t 255 0)) (cond u 255 0)) ≡ false →
     (s ≡ false) × ((t ≡ false) × (u ≡ false))
 none_of false false false is = (refl, (refl, refl))
 none_of false false true is = absurd (false≢true (sym is))
@@ -100,7 +101,7 @@ none_of true true false is = absurd (false≢true (sym is))
 none_of true true true is = absurd (false≢true (sym is))
 
 none_in : (n : ℕ) (xs ys zs : List ℕ) → length xs ≡ n → length ys ≡ n → length zs ≡ n →
-    mask_l (marks_of xs ys zs n) ≡ 0 → HasNone xs × (HasNone ys × HasNone zs)
+    mask_l (lf_marks_of_three xs ys zs n) ≡ 0 → HasNoLf xs × (HasNoLf ys × HasNoLf zs)
 none_in zero [] [] [] a b c none = (tt, (tt, tt))
 none_in zero [] [] (z ∷ zs) a b c none = absurd (omega (arith, c))
 none_in zero [] (y ∷ ys) zs a b c none = absurd (omega (arith, b))
@@ -110,62 +111,74 @@ none_in (suc n) (x ∷ xs) [] zs a b c none = absurd (omega (arith, b))
 none_in (suc n) (x ∷ xs) (y ∷ ys) [] a b c none = absurd (omega (arith, c))
 none_in (suc n) (x ∷ xs) (y ∷ ys) (z ∷ zs) a b c none =
     let first = no_bit
-    (top 7 (either (either (cond (x == 10) 255 0) (cond (y == 10) 255 0)) (cond (z == 10) 255 0)))
-    (mask_l (marks_of xs ys zs n)) 0 none in
+    (top 7 (bit_or_octets (bit_or_octets (cond (x == 10) 255 0) (cond (y == 10) 255 0))
+    (cond (z == 10) 255 0)))
+    (mask_l (lf_marks_of_three xs ys zs n)) 0 none in
     let here = none_of (x == 10) (y == 10) (z == 10) first.0 in
     let more = none_in n xs ys zs (omega (arith, a)) (omega (arith, b)) (omega (arith, c)) first.1
     in
     ((here.0, more.0), ((here.1.0, more.1.0), (here.1.1, more.1.1)))
 
-marks_long : (xs : List ℕ) (n : ℕ) → length xs ≡ n → length (marks xs n) ≡ n
+marks_long : (xs : List ℕ) (n : ℕ) → length xs ≡ n → length (lf_masks xs n) ≡ n
 marks_long xs n size = search (arith, length-zip2, length-replicate)
 
--- 64 octets, in blocks of 16
-module _ (octets : List ℕ) (size : length octets ≡ 64) where
-  abbrev block : ℕ → List ℕ
-  block a = take 16 (drop a octets)
-
-  block_long : (a : ℕ) → a ≤ 48 → length (block a) ≡ 16
-  block_long a within = search (arith, length-chunk)
-
-  pub line_bits : mask_l (marks_of (block 0) (block 16) (block 32) 16) % 2 ^ 64 ≡ 0 →
-      (mask_l (map (top (hbits w8)) (zip2 (λ a b. cond (a == b) (2 ^ bits w8 - 1) 0)
-      (block 48) (replicate 16 10))) % 2 ^ 64 == 32768) ≡ true → IsLine octets
-  line_bits none is =
-      let first = block_long 0 (omega arith) in
-      let second = block_long 16 (omega arith) in
-      let third = block_long 32 (omega arith) in
-      let last = block_long 48 (omega arith) in
-      let both = zip2 either (marks (block 0) 16) (marks (block 16) 16) in
-      let two : length both ≡ 16 = length-zip2 either _ _
-      (marks_long (block 0) 16 first ∙ sym (marks_long (block 16) 16 second))
-      ∙ marks_long (block 0) 16 first in
-      let long : length (marks_of (block 0) (block 16) (block 32) 16) ≡ 16 =
-      length-map _ (top 7) ∙ (length-zip2 either both _
-      (two ∙ sym (marks_long (block 32) 16 third)) ∙ two) in
-      let bits = sym (mask_l-mod (marks_of (block 0) (block 16) (block 32) 16) 64
-      (omega (arith, long))) ∙ none in
-      let clear = none_in 16 (block 0) (block 16) (block 32) first second third bits in
-      let end : IsLine (block 48) = only_last (block 48) 15 last
-      (sym (bitmask_splat w8 (λ a b. a == b) (block 48) 16 10 last (omega arith))
-      ∙ eqb-true _ _ is) in
-      let whole : block 48 ≡ drop 48 octets =
-      take_all 16 (drop 48 octets) (omega (arith, length-drop 48 octets, size)) in
-      block_before octets 0 clear.0 (block_before octets 16 clear.1.0
-      (block_before octets 32 clear.1.1 (subst IsLine whole end)))
-
 -- the last octets of a line are a line too
-pub line_behind : (xs : List ℕ) (k : ℕ) → IsLine xs → k < length xs → IsLine (drop k xs)
+pub line_behind : (xs : List ℕ) (k : ℕ) → IsOneLine xs → k < length xs → IsOneLine (drop k xs)
 line_behind xs k l some = search (arith, length-drop, drop, get_or-drop)
 
-line_is_whole : (line : List ℕ) → IsLine line → line_size line ≡ length line
+-- 16 octets after the first ones
+abbrev block_of_16 : (octets : List ℕ) (a : ℕ) → List ℕ
+block_of_16 octets a = take 16 (drop a octets)
+
+-- if none of the first 48 octets is LF, and those after k of them are a line, all are
+pub line_from : (octets : List ℕ) → 64 ≤ length octets →
+    mask_l (lf_marks_of_three (block_of_16 octets 0) (block_of_16 octets 16) (block_of_16 octets 32)
+    16) % 2 ^ 64 ≡ 0 →
+    (k : ℕ) → k ≤ 48 → IsOneLine (drop k octets) → IsOneLine octets
+line_from octets size none k within line =
+    let block_long : (a : ℕ) → a ≤ 48 → length (block_of_16 octets a) ≡ 16 =
+    λ a few. search (arith, length-chunk) in
+    let first = block_long 0 (omega arith) in
+    let second = block_long 16 (omega arith) in
+    let third = block_long 32 (omega arith) in
+    let both = zip2 bit_or_octets (lf_masks (block_of_16 octets 0) 16)
+    (lf_masks (block_of_16 octets 16) 16) in
+    let two : length both ≡ 16 = length-zip2 bit_or_octets _ _
+    (marks_long (block_of_16 octets 0) 16 first ∙ sym (marks_long (block_of_16 octets 16) 16
+    second))
+    ∙ marks_long (block_of_16 octets 0) 16 first in
+    let all = lf_marks_of_three (block_of_16 octets 0) (block_of_16 octets 16)
+    (block_of_16 octets 32) 16 in
+    let long : length all ≡ 16 =
+    length-map _ (top 7) ∙ (length-zip2 bit_or_octets both _
+    (two ∙ sym (marks_long (block_of_16 octets 32) 16 third)) ∙ two) in
+    let bits = sym (mask_l-mod all 64 (omega (arith, long))) ∙ none in
+    let clear = none_in 16 (block_of_16 octets 0) (block_of_16 octets 16) (block_of_16 octets 32)
+    first second third
+    bits in
+    let sum : k + (48 - k) ≡ 48 = omega (arith, within) in
+    let rest : IsOneLine (drop 48 octets) = rw sum at (rw (drop-drop (48 - k) k octets) at
+    (line_behind (drop k octets) (48 - k) line (omega (arith, length-drop k octets, within))))
+    in
+    block_before octets 0 clear.0 (block_before octets 16 clear.1.0
+    (block_before octets 32 clear.1.1 rest))
+
+-- if only the last of 16 octets is LF, they are a line
+pub line_bits : (octets : List ℕ) → length octets ≡ 16 →
+    (mask_l (map (top (hbits w8)) (zip2 (λ a b. cond (a == b) (2 ^ bits w8 - 1) 0)
+    octets (replicate 16 10))) % 2 ^ 64 == 32768) ≡ true → IsOneLine octets
+line_bits octets size is = only_last octets 15 size
+    (sym (bitmask_splat w8 (λ a b. a == b) octets 16 10 size (omega arith)) ∙ eqb-true _ _ is)
+
+line_is_whole : (line : List ℕ) → IsOneLine line → first_line_size line ≡ length line
 line_is_whole line l = search (arith, line_some)
 
 -- the tag was put, and then octets of the line
 past_tag : (a b : Option (List ℕ)) (before tag : List ℕ) (since : ℕ) (text line : List ℕ) (k : ℕ) →
-    IsLine line → 0 < length tag → 0 < k → k ≤ length line →
-    StandsIn a before tag since text (length tag) → Appends a b (tag ++ take k line) →
-    StandsIn b before tag (since + (length tag + k)) (text ++ take k line) (due_at tag line k)
+    IsOneLine line → 0 < length tag → 0 < k → k ≤ length line →
+    StandsTaggedIn a before tag since text (length tag) → Appends a b (tag ++ take k line) →
+    StandsTaggedIn b before tag (since + (length tag + k)) (text ++ take k line)
+    (due_after_first tag line k)
 past_tag None b before tag since text line k is some first fits stands appends = absurd stands
 past_tag (Some w) None before tag since text line k is some first fits stands appends =
     absurd appends
@@ -184,12 +197,12 @@ past_tag (Some w) (Some w') before tag since text line k is some first fits stan
 
 -- the whole line was put with its tag
 whole_stands : (a b : Option (List ℕ)) (before tag : List ℕ) (since : ℕ) (text line : List ℕ) →
-    IsLine line → 0 < length tag →
-    StandsIn a before tag since text (length tag) → Appends a b (tag ++ line) →
-    StandsIn b before tag (since + (length tag + length line)) (text ++ line) (length tag)
+    IsOneLine line → 0 < length tag →
+    StandsTaggedIn a before tag since text (length tag) → Appends a b (tag ++ line) →
+    StandsTaggedIn b before tag (since + (length tag + length line)) (text ++ line) (length tag)
 whole_stands a b before tag since text line is some stands appends =
     let all = take_all (length line) line (omega arith) in
-    let due : due_at tag line (length line) ≡ length tag = rw is.ended refl in
+    let due : due_after_first tag line (length line) ≡ length tag = rw is.ended refl in
     rw (all, due) at (past_tag a b before tag since text line (length line) is some is.some
     (omega arith)
     stands (rw all appends))
@@ -197,15 +210,15 @@ whole_stands a b before tag since text line is some stands appends =
 -- only a front of the tag and the line was put
 front_stands : (a b : Option (List ℕ)) (before tag : List ℕ) (since : ℕ) (text line : List ℕ)
     (n : ℕ) →
-    IsLine line → 0 < length tag → n < length tag + length line →
-    StandsIn a before tag since text (length tag) → Appends a b (take n (tag ++ line)) →
-    StandsIn b before tag (since + n) (text ++ take (n - length tag) line) (length tag - n)
+    IsOneLine line → 0 < length tag → n < length tag + length line →
+    StandsTaggedIn a before tag since text (length tag) → Appends a b (take n (tag ++ line)) →
+    StandsTaggedIn b before tag (since + n) (text ++ take (n - length tag) line) (length tag - n)
 front_stands a b before tag since text line n is some few stands appends =
     elim (cases_lt (length tag) n) [
       | inl past ↦
           let k = n - length tag in
           let split : n ≡ length tag + k = omega (arith, past) in
-          let due : due_at tag line k ≡ length tag - n =
+          let due : due_after_first tag line k ≡ length tag - n =
           rw (is.only (k - 1) (omega (arith, past, few))) (omega (arith, past)) in
           let parts : take n (tag ++ line) ≡ tag ++ take k line =
           ap (λ m. take m (tag ++ line)) split ∙ take-append-add tag line k in
@@ -221,7 +234,7 @@ front_stands a b before tag since text line n is some few stands appends =
     ]
 
 pub wrote_line : (a b : Option (List ℕ)) (tag line : List ℕ)
-    (f f' since since' due puts failures : ℕ) → IsLine line → 0 < length tag → due ≡ length tag →
+    (f f' since since' due puts failures : ℕ) → IsOneLine line → 0 < length tag → due ≡ length tag →
     Appends a b (tag ++ line) → since' ≡ since + length (tag ++ line) →
     Wrote (tagging_log (record {
       whole = a;
@@ -229,7 +242,7 @@ pub wrote_line : (a b : Option (List ℕ)) (tag line : List ℕ)
       tag = tag;
       due = due;
       since = since;
-      full = false;
+      refused = false;
       puts = puts;
       failures = failures;
     }))
@@ -239,7 +252,7 @@ pub wrote_line : (a b : Option (List ℕ)) (tag line : List ℕ)
       tag = tag;
       due = due;
       since = since';
-      full = false;
+      refused = false;
       puts = puts;
       failures = failures;
     })) line
@@ -247,16 +260,16 @@ wrote_line a b tag line f f' since since' due puts failures is some all appends 
     (arith, length-append, grows, whole_stands, clean_line)
 
 pub wrote_front : (a b : Option (List ℕ)) (tag line : List ℕ)
-    (f f' since since' due due' n puts failures failures' : ℕ) → IsLine line → 0 < length tag →
+    (f f' since since' due due' n puts failures failures' : ℕ) → IsOneLine line → 0 < length tag →
     due ≡ length tag → due' ≡ length tag - n → n < length (tag ++ line) →
-    Appends a b (take n (tag ++ line)) → since' ≡ since + n → failures' ≡ counted failures →
+    Appends a b (take n (tag ++ line)) → since' ≡ since + n → failures' ≡ saturating_next failures →
     WroteFront (tagging_log (record {
       whole = a;
       below = f;
       tag = tag;
       due = due;
       since = since;
-      full = false;
+      refused = false;
       puts = puts;
       failures = failures;
     }))
@@ -266,7 +279,7 @@ pub wrote_front : (a b : Option (List ℕ)) (tag line : List ℕ)
       tag = tag;
       due = due';
       since = since';
-      full = false;
+      refused = false;
       puts = puts;
       failures = failures';
     })) line
@@ -276,7 +289,8 @@ wrote_front a b tag line f f' since since' due due' n puts failures failures' is
     let rest = take (n - length tag) line in
     record {
       size = n - length tag;
-      written = rw failed (grows a b tag rest since since' due due' failures (counted failures)
+      written = rw failed (grows a b tag rest since since' due due' failures
+          (saturating_next failures)
           (λ before text stands. rw (left, more) (front_stands a b before tag since text line n is
           some less (rw all at stands) appends))
           (λ text. clean_failed tag (text ++ rest) due' failures));

@@ -1,6 +1,6 @@
 -- What the connections of a capture have written, after one more event.
 use Rattle.std.proofs.Common.{◌≡◌, ℕ, ◌<◌, ◌/◌, arith, Bool, true, false, ◌||◌, List, [], ◌∷◌, ◌++◌, length, Option, Some, None, IfSome, Result, Ok, Err, MatchResult, refl, sym, ap, subst, ◌∙◌, slice_get, set, nat_lt}
-use Rattle.giop_print.specs.Output.{counted, Writes}
+use Rattle.giop_print.specs.Output.{saturating_next, Writes}
 use Rattle.tcp_flow.specs.Flow.{Event, Opens, Begins, Delivers, Closes, OfCapture, ComesFrom, Passes, HasFault}
 use Rattle.tcp_flow.specs.declared.flow.Start.{Start}
 use Rattle.tcp_flow.specs.declared.flow.CloseCause.{CloseCause}
@@ -18,8 +18,8 @@ use Rattle.giop_conversation.specs.Lines.{capture_fault_line, capture_total_line
 use Rattle.giop_conversation.specs.Stamped.{begin_lines}
 use Rattle.giop_conversation.specs.StreamReads.{WritesTagged}
 use Rattle.giop_conversation.specs.Followed.{side_of}
-use Rattle.giop_conversation.specs.Captured.{Setup, Connection, Dump, Step, Leads, start, half, opened, begun, ended, opening, totals_of, delivered, delivered_lines, closed_lines, rules_in, sum_within, number_in, cuts, opened_in, begun_in, delivered_in, closed_in, finished_text, IsAnswered}
-use Rattle.giop_conversation.specs.DumpHeld.{HoldsConnection, ReadsBy, HoldsDump, HasWritten, HasWrittenFront, HasFinished, HasFinishedFront}
+use Rattle.giop_conversation.specs.Captured.{Setup, Connection, Dump, Step, Leads, start, half, flow_opened, stream_begun, stream_ended, opening, totals_of, octets_delivered, lines_of_delivered, closed_lines, rules_in, saturating_sum, next_stream_number, cuts_stream, dump_after_open, dump_after_begin, dump_after_octets, dump_after_close, finished_text, AnswersAreOfCalls}
+use Rattle.giop_conversation.specs.DumpHeld.{HoldsConnection, HasReadFlow, HoldsDump, HasWritten, HasWrittenFront, HasFinished, HasFinishedFront}
 use Rattle.giop_conversation.proofs.Tagging.{ready_new}
 use Rattle.giop_conversation.proofs.DumpLemmas.{leads_more, held_at, none_at, held_set, no_tag_is}
 use Rattle.giop_conversation.proofs.LineEnds.{capture_fault_ends, capture_total_ends}
@@ -28,15 +28,15 @@ use Rattle.giop_conversation.proofs.StreamReadLemmas.{below_tag, nothing, nothin
 no_answers : Answers
 no_answers number id = None
 
-pub counted_is : (n : ℕ) → sum_within n 1 ≡ counted n
-unfolding counted
+pub counted_is : (n : ℕ) → saturating_sum n 1 ≡ saturating_next n
+unfolding saturating_next
 counted_is n = refl
 
 -- the sums after one stream more has begun, and after one has closed
-abbrev pub with_streams : CaptureTotals → ℕ → CaptureTotals
+abbrev pub with_streams : (t : CaptureTotals) (streams : ℕ) → CaptureTotals
 with_streams t streams = record t { streams = streams }
 
-abbrev pub with_counts : CaptureTotals → ℕ → ℕ → CaptureTotals
+abbrev pub with_counts : (t : CaptureTotals) (messages faults : ℕ) → CaptureTotals
 with_counts t messages faults = record t { messages = messages; faults = faults }
 
 pub still_sound : (n : ℕ) → n ≡ 0 → 0 < n → ⊥
@@ -49,7 +49,7 @@ pub new_ready : (t : Tagging) (whole : Option (List ℕ)) (below : ℕ) (written
       tag = [];
       due = 0;
       since = 0;
-      full = false;
+      refused = false;
       puts = 0;
       failures = 0;
     } →
@@ -84,14 +84,14 @@ module _ (S : Setup) (written : List ℕ) (events : List Event) where
     pub opened_told : (flow : ℕ) (endpoints : Flow) (old new : Conversation) → Before →
         slice_get slots (flow / 2) ≡ Some old →
         ((c : Connection) → HoldsConnection S old c →
-        HoldsConnection S new (opened (side_of flow) endpoints c)) →
+        HoldsConnection S new (flow_opened (side_of flow) endpoints c)) →
         HasWritten S written (events ++ Opens flow endpoints ∷ []) (set slots (flow / 2) new) out
         arrival first totals cut
     opened_told flow endpoints old new b here opens =
         let d = b.dump in
         let h = b.holds in
         let at = held_at S slots d.connections (flow / 2) old h.connections here in
-        let behind = opened_in d flow endpoints (Some at.connection) in
+        let behind = dump_after_open d flow endpoints (Some at.connection) in
         record {
           dump = behind;
           leads = leads_more S events (start S written) (Opens flow endpoints) d behind b.leads
@@ -99,11 +99,11 @@ module _ (S : Setup) (written : List ℕ) (events : List Event) where
                 answers = no_answers;
                 answered = tt;
                 is =
-                    ap (opened_in d flow endpoints) (sym at.is);
+                    ap (dump_after_open d flow endpoints) (sym at.is);
               });
           holds = record {
             connections = held_set S slots d.connections (flow / 2) new
-                (opened (side_of flow) endpoints at.connection) h.connections
+                (flow_opened (side_of flow) endpoints at.connection) h.connections
                 (opens at.connection at.holds);
             ready = h.ready;
             arrival_is = h.arrival_is;
@@ -129,7 +129,7 @@ module _ (S : Setup) (written : List ℕ) (events : List Event) where
                 answers = no_answers;
                 answered = tt;
                 is =
-                    ap (opened_in d flow endpoints) (sym none);
+                    ap (dump_after_open d flow endpoints) (sym none);
               });
           holds = b.holds;
         }
@@ -138,10 +138,11 @@ module _ (S : Setup) (written : List ℕ) (events : List Event) where
 
     pub begun_told : {A E : Type 0} (r : Result A E) (flow : ℕ) (s : Start) (own next : ℕ)
         (old new : Conversation) (out' : Tagging) →
-        own ≡ sum_within first totals.streams → next ≡ sum_within totals.streams 1 → Before →
+        own ≡ saturating_sum first totals.streams → next ≡ saturating_sum totals.streams 1 →
+        Before →
         slice_get slots (flow / 2) ≡ Some old →
         ((c : Connection) → HoldsConnection S old c →
-        HoldsConnection S new (begun (side_of flow) own c)) →
+        HoldsConnection S new (stream_begun (side_of flow) own c)) →
         ((c : Connection) (w : List ℕ) → HoldsConnection S old c → IsReady out w →
         WritesTagged r out' w (stream_tag own) (begin_lines (half (side_of flow) c).flow
         (opening (side_of flow) arrival.time s c))) →
@@ -152,33 +153,40 @@ module _ (S : Setup) (written : List ℕ) (events : List Event) where
     begun_told r flow s own next old new out' own_is is b here begins writes =
         let d = b.dump in
         let h = b.holds in
-        let has : own ≡ number_in S d.streams =
-        own_is ∙ (ap (λ n. sum_within n totals.streams) h.first_is
-        ∙ ap (λ n. sum_within S.first n) h.streams_are) in
+        let has : own ≡ next_stream_number S d.streams =
+        own_is ∙ (ap (λ n. saturating_sum n totals.streams) h.first_is
+        ∙ ap (λ n. saturating_sum S.first n) h.streams_are) in
         let at = held_at S slots d.connections (flow / 2) old h.connections here in
         let endpoints = (half (side_of flow) at.connection).flow in
         let opens : Option ℕ → Opening = λ time. opening (side_of flow) time s at.connection in
-        let step : Step S d (Begins flow s) (begun_in S d flow s (Some at.connection)) =
-        record { answers = no_answers; answered = tt; is = ap (begun_in S d flow s) (sym at.is) } in
-        let holds = subst (λ n. HoldsConnection S new (begun (side_of flow) n at.connection))
+        let step : Step S d (Begins flow s) (dump_after_begin S d flow s (Some at.connection)) =
+        record {
+          answers = no_answers;
+          answered = tt;
+          is = ap (dump_after_begin S d flow s)
+              (sym at.is);
+        } in
+        let holds = subst (λ n. HoldsConnection S new (stream_begun (side_of flow) n at.connection))
         has (begins at.connection at.holds) in
         let lines = subst (λ n. WritesTagged r out' d.text (stream_tag n)
         (begin_lines endpoints (opens d.arrival.time))) has
         (subst (λ (t : Option ℕ). WritesTagged r out' d.text (stream_tag own)
         (begin_lines endpoints (opens t))) (ap (λ (x : Arrival). x.time) h.arrival_is)
         (writes at.connection d.text at.holds h.ready)) in
-        told_or_front r d (begun_in S d flow s (Some at.connection)) (Begins flow s)
+        told_or_front r d (dump_after_begin S d flow s (Some at.connection)) (Begins flow s)
         (set slots (flow / 2) new) out' arrival first (with_streams totals next) cut
-        (stream_tag (number_in S d.streams)) (begin_lines endpoints (opens d.arrival.time)) b.leads
+        (stream_tag (next_stream_number S d.streams)) (begin_lines endpoints (opens d.arrival.time))
+        b.leads
         step
         refl
         (λ ready. record {
           connections = held_set S slots d.connections (flow / 2) new
-              (begun (side_of flow) (number_in S d.streams) at.connection) h.connections holds;
+              (stream_begun (side_of flow) (next_stream_number S d.streams) at.connection)
+              h.connections holds;
           ready = ready;
           arrival_is = h.arrival_is;
           first_is = h.first_is;
-          streams_are = is ∙ (ap (λ n. sum_within n 1) h.streams_are ∙ counted_is d.streams);
+          streams_are = is ∙ (ap (λ n. saturating_sum n 1) h.streams_are ∙ counted_is d.streams);
           messages_are = h.messages_are;
           faults_are = h.faults_are;
           others_are = h.others_are;
@@ -186,7 +194,7 @@ module _ (S : Setup) (written : List ℕ) (events : List Event) where
         }) lines
 
     pub begun_beyond : (flow : ℕ) (s : Start) (next : ℕ) →
-        next ≡ sum_within totals.streams 1 → Before →
+        next ≡ saturating_sum totals.streams 1 → Before →
         slice_get slots (flow / 2) ≡ None →
         HasWritten S written (events ++ Begins flow s ∷ []) slots out arrival first
         (with_streams totals next) cut
@@ -195,21 +203,21 @@ module _ (S : Setup) (written : List ℕ) (events : List Event) where
         let h = b.holds in
         let none = none_at S slots d.connections (flow / 2) h.connections beyond in
         record {
-          dump = begun_in S d flow s None;
+          dump = dump_after_begin S d flow s None;
           leads = leads_more S events (start S written) (Begins flow s) d
-              (begun_in S d flow s None) b.leads
+              (dump_after_begin S d flow s None) b.leads
               (record {
                 answers = no_answers;
                 answered = tt;
                 is =
-                    ap (begun_in S d flow s) (sym none);
+                    ap (dump_after_begin S d flow s) (sym none);
               });
           holds = record {
             connections = h.connections;
             ready = h.ready;
             arrival_is = h.arrival_is;
             first_is = h.first_is;
-            streams_are = is ∙ (ap (λ n. sum_within n 1) h.streams_are ∙ counted_is d.streams);
+            streams_are = is ∙ (ap (λ n. saturating_sum n 1) h.streams_are ∙ counted_is d.streams);
             messages_are = h.messages_are;
             faults_are = h.faults_are;
             others_are = h.others_are;
@@ -223,7 +231,7 @@ module _ (S : Setup) (written : List ℕ) (events : List Event) where
         (old new : Conversation) (out' : Tagging) → Before →
         slice_get slots (flow / 2) ≡ Some old →
         ((c : Connection) (w : List ℕ) → HoldsConnection S old c → IsReady out w →
-        ReadsBy S c (side_of flow) octets arrival w r new out') →
+        HasReadFlow S c (side_of flow) octets arrival w r new out') →
         MatchResult r
         (λ _. HasWritten S written (events ++ Delivers flow octets ∷ []) (set slots (flow / 2) new)
         out' arrival first totals cut)
@@ -233,24 +241,26 @@ module _ (S : Setup) (written : List ℕ) (events : List Event) where
         let h = b.holds in
         let at = held_at S slots d.connections (flow / 2) old h.connections here in
         let side = side_of flow in
-        let read = subst (λ (t : Arrival). ReadsBy S at.connection side octets t d.text r new
+        let read = subst (λ (t : Arrival). HasReadFlow S at.connection side octets t d.text r new
         out') h.arrival_is
         (reads at.connection d.text at.holds h.ready) in
         let a = read.answers in
-        let behind = delivered_in S a d flow octets (Some at.connection) in
+        let behind = dump_after_octets S a d flow octets (Some at.connection) in
         let step : Step S d (Delivers flow octets) behind = record {
           answers = a;
           answered = subst (λ (o : Option Connection).
-              IfSome o (λ c. IsAnswered S a side octets d.arrival c)) (sym at.is) read.answered;
-          is = ap (delivered_in S a d flow octets) (sym at.is);
+              IfSome o (λ c. AnswersAreOfCalls S a side octets d.arrival c)) (sym at.is)
+              read.answered;
+          is = ap (dump_after_octets S a d flow octets) (sym at.is);
         } in
         by r d behind (half side at.connection).stream
-        (delivered_lines S a side octets d.arrival at.connection)
-        (HoldsConnection S new (delivered S a side octets d.arrival at.connection)) b.leads step
+        (lines_of_delivered S a side octets d.arrival at.connection)
+        (HoldsConnection S new (octets_delivered S a side octets d.arrival at.connection)) b.leads
+        step
         refl read.reads
         (λ holds ready. record {
           connections = held_set S slots d.connections (flow / 2) new
-              (delivered S a side octets d.arrival at.connection) h.connections holds;
+              (octets_delivered S a side octets d.arrival at.connection) h.connections holds;
           ready = ready;
           arrival_is = h.arrival_is;
           first_is = h.first_is;
@@ -294,9 +304,10 @@ module _ (S : Setup) (written : List ℕ) (events : List Event) where
               (record {
                 answers = no_answers;
                 answered = subst (λ (o : Option Connection).
-                    IfSome o (λ c. IsAnswered S no_answers (side_of flow) octets d.arrival c))
+                    IfSome o (λ c. AnswersAreOfCalls S no_answers (side_of flow) octets d.arrival
+                    c))
                     (sym none) tt;
-                is = ap (delivered_in S no_answers d flow octets) (sym none);
+                is = ap (dump_after_octets S no_answers d flow octets) (sym none);
               });
           before = d.text;
           tag = [];
@@ -320,12 +331,12 @@ module _ (S : Setup) (written : List ℕ) (events : List Event) where
         WritesTagged r out' w (stream_tag (half (side_of flow) c).stream)
         (closed_lines S (side_of flow) cause c)) →
         ((c : Connection) → HoldsConnection S old c →
-        HoldsConnection S new (ended (side_of flow) c)) →
+        HoldsConnection S new (stream_ended (side_of flow) c)) →
         ((c : Connection) → HoldsConnection S old c →
         had ≡ final (rules_in S (half (side_of flow) c).answers)
         (half (side_of flow) c).octets) →
-        messages' ≡ sum_within totals.messages had.messages →
-        faults' ≡ sum_within totals.faults had.faults → cut' ≡ (cut || cuts cause) →
+        messages' ≡ saturating_sum totals.messages had.messages →
+        faults' ≡ saturating_sum totals.faults had.faults → cut' ≡ (cut || cuts_stream cause) →
         MatchResult r
         (λ _. HasWritten S written (events ++ Closes flow cause ∷ []) (set slots (flow / 2) new)
         out'
@@ -338,31 +349,32 @@ module _ (S : Setup) (written : List ℕ) (events : List Event) where
         let at = held_at S slots d.connections (flow / 2) old h.connections here in
         let side = side_of flow in
         let total = ends at.connection at.holds in
-        let behind = closed_in S d flow cause (Some at.connection) in
+        let behind = dump_after_close S d flow cause (Some at.connection) in
         let step : Step S d (Closes flow cause) behind =
         record {
           answers = no_answers;
           answered = tt;
           is =
-              ap (closed_in S d flow cause) (sym at.is);
+              ap (dump_after_close S d flow cause) (sym at.is);
         } in
         told_or_front r d behind (Closes flow cause) (set slots (flow / 2) new) out' arrival first
         (with_counts totals messages' faults') cut'
         (stream_tag (half side at.connection).stream) (closed_lines S side cause at.connection)
         b.leads step refl
         (λ ready. record {
-          connections = held_set S slots d.connections (flow / 2) new (ended side at.connection)
+          connections = held_set S slots d.connections (flow / 2) new
+              (stream_ended side at.connection)
               h.connections (closes at.connection at.holds);
           ready = ready;
           arrival_is = h.arrival_is;
           first_is = h.first_is;
           streams_are = h.streams_are;
-          messages_are = more ∙ (ap (λ n. sum_within n had.messages) h.messages_are
-              ∙ ap (λ (t : Totals). sum_within d.messages t.messages) total);
+          messages_are = more ∙ (ap (λ n. saturating_sum n had.messages) h.messages_are
+              ∙ ap (λ (t : Totals). saturating_sum d.messages t.messages) total);
           others_are = h.others_are;
-          faults_are = fault ∙ (ap (λ n. sum_within n had.faults) h.faults_are
-              ∙ ap (λ (t : Totals). sum_within d.faults t.faults) total);
-          cut_is = is_cut ∙ ap (λ b. b || cuts cause) h.cut_is;
+          faults_are = fault ∙ (ap (λ n. saturating_sum n had.faults) h.faults_are
+              ∙ ap (λ (t : Totals). saturating_sum d.faults t.faults) total);
+          cut_is = is_cut ∙ ap (λ b. b || cuts_stream cause) h.cut_is;
         }) (writes at.connection d.text at.holds h.ready)
 
     pub closed_front : (flow : ℕ) (cause : CloseCause) (old : Conversation) (out' : Tagging) →
@@ -377,14 +389,14 @@ module _ (S : Setup) (written : List ℕ) (events : List Event) where
         let h = b.holds in
         let at = held_at S slots d.connections (flow / 2) old h.connections here in
         record {
-          dump = closed_in S d flow cause (Some at.connection);
+          dump = dump_after_close S d flow cause (Some at.connection);
           leads = leads_more S events (start S written) (Closes flow cause) d
-              (closed_in S d flow cause (Some at.connection)) b.leads
+              (dump_after_close S d flow cause (Some at.connection)) b.leads
               (record {
                 answers = no_answers;
                 answered = tt;
                 is =
-                    ap (closed_in S d flow cause) (sym at.is);
+                    ap (dump_after_close S d flow cause) (sym at.is);
               });
           before = d.text;
           tag = stream_tag (half (side_of flow) at.connection).stream;
@@ -406,7 +418,7 @@ module _ (S : Setup) (written : List ℕ) (events : List Event) where
                 answers = no_answers;
                 answered = tt;
                 is =
-                    ap (closed_in S d flow cause) (sym none);
+                    ap (dump_after_close S d flow cause) (sym none);
               });
           holds = b.holds;
         }
@@ -470,13 +482,14 @@ module _ (S : Setup) (written : List ℕ) (events : List Event) where
         (below_tag r out set_out out' d.text line tag [] h.ready sets none
         (capture_fault_ends word place) writes)
 
-    pub passed_told : (octets : List ℕ) (next : ℕ) → next ≡ sum_within totals.others 1 → Before →
+    pub passed_told : (octets : List ℕ) (next : ℕ) → next ≡ saturating_sum totals.others 1 →
+        Before →
         HasWritten S written (events ++ OfCapture (Passes octets) ∷ []) slots out arrival first
         (record totals { others = next }) cut
     passed_told octets next is b =
         let d = b.dump in
         let h = b.holds in
-        let behind = record d { others = counted d.others } in
+        let behind = record d { others = saturating_next d.others } in
         record {
           dump = behind;
           leads = leads_more S events (start S written) (OfCapture (Passes octets)) d behind b.leads
@@ -489,7 +502,7 @@ module _ (S : Setup) (written : List ℕ) (events : List Event) where
             streams_are = h.streams_are;
             messages_are = h.messages_are;
             faults_are = h.faults_are;
-            others_are = is ∙ (ap (λ n. sum_within n 1) h.others_are ∙ counted_is d.others);
+            others_are = is ∙ (ap (λ n. saturating_sum n 1) h.others_are ∙ counted_is d.others);
             cut_is = h.cut_is;
           };
         }

@@ -2,7 +2,7 @@
 -- meaning). A flow is named by its id. Half of the id is the index of its connection. If the id is
 -- even, the flow is the even one of its connection, else the odd one.
 use Rattle.std.specs.Prelude.{◌≡◌, ℕ, ◌+◌, ◌-◌, ◌^◌, ◌/◌, min, Bool, true, false, ◌||◌, List, [], ◌∷◌, ◌++◌, map, Option, Some, None, IfSome, slice_get, set, replicate, if◌then◌else◌}
-use Rattle.giop_print.specs.Output.{counted}
+use Rattle.giop_print.specs.Output.{saturating_next}
 use Rattle.giop_sig.specs.Table.{Table}
 use Rattle.giop_entry_table.specs.EntryTable.{Entries}
 use Rattle.giop_calls.specs.declared.calls.Call.{Call}
@@ -24,8 +24,8 @@ use Rattle.giop_conversation.specs.declared.lines.CaptureTotals.{CaptureTotals}
 use Rattle.giop_conversation.specs.declared.lines.Opening.{Opening}
 use Rattle.giop_conversation.specs.Tags.{stream_tag, with_tags}
 use Rattle.giop_conversation.specs.Lines.{closed_line, capture_fault_line, capture_total_line}
-use Rattle.giop_conversation.specs.Exchanges.{Exchanged, answer_of, notified}
-use Rattle.giop_conversation.specs.Stamped.{begin_lines, exchanged, stamped}
+use Rattle.giop_conversation.specs.Exchanges.{ExchangeView, answer_of, notified}
+use Rattle.giop_conversation.specs.Stamped.{begin_lines, after_octets, stamped}
 use Rattle.giop_conversation.specs.Followed.{side_of, other}
 
 -- what is set before a capture is read: the types, the greatest number of open messages of a
@@ -38,7 +38,7 @@ pub record Setup : Type 0 where
   pub connections : ℕ
   pub first : ℕ
 
-abbrev pub setup : Table → ℕ → ℕ → ℕ → ℕ → Setup
+abbrev pub setup : (table : Table) (messages calls connections first : ℕ) → Setup
 setup table messages calls connections first = record {
   table = table;
   messages = messages;
@@ -62,20 +62,21 @@ pub record Connection : Type 0 where
   pub even : Half
   pub odd : Half
 
-abbrev pub half : Side → Connection → Half
+abbrev pub half : (side : Side) (connection : Connection) → Half
 half Even c = c.even
 half Odd c = c.odd
 
-abbrev pub with_half : Side → Connection → Half → Connection
+abbrev pub with_half : (side : Side) (connection : Connection) (new : Half) → Connection
 with_half Even c s = record c { even = s }
 with_half Odd c s = record c { odd = s }
 
 -- the rules by which a stream is read, if the ids of its messages answer these operations
-abbrev pub rules_in : Setup → Answers → Rules
+abbrev pub rules_in : (setup : Setup) (answers : Answers) → Rules
 rules_in S a = rules_by S.table a S.messages
 
 -- the calls of the connection, when the stream of a flow is read in this packet
-abbrev pub calls_in : Setup → Side → Arrival → Connection → Exchanged
+abbrev pub calls_in : (setup : Setup) (read : Side) (arrival : Arrival) (connection : Connection) →
+    ExchangeView
 calls_in S side arrival c = record {
   table = S.table;
   own = (half side c).calls;
@@ -88,41 +89,44 @@ calls_in S side arrival c = record {
 }
 
 -- after it is known who sends to whom in a flow: the flow has no calls
-abbrev pub opened : Side → Flow → Connection → Connection
-opened side flow c =
+abbrev pub flow_opened : (side : Side) (flow : Flow) (connection : Connection) → Connection
+flow_opened side flow c =
     with_half side c (record (half side c) {
       flow = Some flow;
       calls = record (half side c).calls { entries = [] };
     })
 
 -- after a stream of this number has begun in a flow
-abbrev pub begun : Side → ℕ → Connection → Connection
-begun side stream c =
+abbrev pub stream_begun : (side : Side) (stream : ℕ) (c : Connection) → Connection
+stream_begun side stream c =
     with_half side c (record (half side c) { stream = stream; is_live = true; octets = [] })
 
 -- after the stream of a flow has closed
-abbrev pub ended : Side → Connection → Connection
-ended side c = with_half side c (record (half side c) { is_live = false })
+abbrev pub stream_ended : (side : Side) (connection : Connection) → Connection
+stream_ended side c = with_half side c (record (half side c) { is_live = false })
 
 -- the number of a flow's stream, if it lives
-abbrev pub live_stream : Half → Option ℕ
+abbrev pub live_stream : (flow_state : Half) → Option ℕ
 live_stream s = if s.is_live then Some s.stream else None
 
 -- what the line of a stream says that begins in a flow at this time
-abbrev pub opening : Side → Option ℕ → Start → Connection → Opening
+abbrev pub opening : (side : Side) (time : Option ℕ) (start : Start) (c : Connection) → Opening
 opening side time start c =
     record { time = time; partner = live_stream (half (other side) c); start = start }
 
 -- the calls of the connection after octets that are delivered in this packet, if the ids of the
 -- stream's messages answer these operations
-abbrev pub calls_behind : Setup → Answers → Side → List ℕ → Arrival → Connection → Exchanged
-calls_behind S a side octets arrival c =
-    exchanged (rules_in S a) (calls_in S side arrival c) (half side c).octets octets
+abbrev pub calls_after_octets : (S : Setup) (a : Answers) (side : Side) (octets : List ℕ)
+    (arrival : Arrival) (c : Connection) → ExchangeView
+calls_after_octets S a side octets arrival c =
+    after_octets (rules_in S a) (calls_in S side arrival c) (half side c).octets octets
 
 -- the connection after octets that are delivered in this packet, by these answers
-abbrev pub delivered : Setup → Answers → Side → List ℕ → Arrival → Connection → Connection
-delivered S a side octets arrival c =
-    let behind = calls_behind S a side octets arrival c in
+abbrev pub octets_delivered : (S : Setup) (a : Answers) (side : Side) (octets : List ℕ)
+    (arrival : Arrival)
+    (c : Connection) → Connection
+octets_delivered S a side octets arrival c =
+    let behind = calls_after_octets S a side octets arrival c in
     with_half (other side)
     (with_half side c (record (half side c) {
       octets = (half side c).octets ++ octets;
@@ -132,21 +136,24 @@ delivered S a side octets arrival c =
     (record (half (other side) c) { calls = behind.opposite })
 
 -- the lines of octets that are delivered in this packet, by these answers, without the tag
-abbrev pub delivered_lines : Setup → Answers → Side → List ℕ → Arrival → Connection → List ℕ
-delivered_lines S a side octets arrival c =
+abbrev pub lines_of_delivered : (S : Setup) (a : Answers) (side : Side) (octets : List ℕ)
+    (arrival : Arrival) (c : Connection) → List ℕ
+lines_of_delivered S a side octets arrival c =
     stamped (rules_in S a) (calls_in S side arrival c) (half side c).octets octets
 
 -- These answers are those of the calls. They agree with the stream's answers for what was delivered
 -- before. And if the header of a Reply ends in the octets, the Reply has results of the operation
 -- of the call that it answers.
-pub record IsAnswered (S : Setup) (a : Answers) (side : Side) (octets : List ℕ)
-    (arrival : Arrival) (c : Connection) : Type 0 where
-  pub before : AnswersAgree S.table S.messages (half side c).octets (half side c).answers a
-  pub now : AgreesAtEnds answer_of notified S.table (calls_in S side arrival c) a
-      (header_ends_from (rules_in S a) (half side c).octets octets)
+pub record AnswersAreOfCalls (S : Setup) (answers : Answers) (side : Side) (octets : List ℕ)
+    (arrival : Arrival) (connection : Connection) : Type 0 where
+  pub before : AnswersAgree S.table S.messages (half side connection).octets
+      (half side connection).answers answers
+  pub now : AgreesAtEnds answer_of notified S.table (calls_in S side arrival connection) answers
+      (header_ends_from (rules_in S answers) (half side connection).octets octets)
 
 -- the lines with which the stream of a flow closes: why it closes, and its closing
-abbrev pub closed_lines : Setup → Side → CloseCause → Connection → List ℕ
+abbrev pub closed_lines : (setup : Setup) (side : Side) (cause : CloseCause)
+    (connection : Connection) → List ℕ
 closed_lines S side cause c =
     closed_line cause ++ closing (rules_in S (half side c).answers) (half side c).octets
 
@@ -176,7 +183,7 @@ abbrev pub new_connection : Setup → Connection
 new_connection S = record { even = new_half S; odd = new_half S }
 
 -- the dump before a capture is read, when this text was written before
-abbrev pub start : Setup → List ℕ → Dump
+abbrev pub start : (S : Setup) (written : List ℕ) → Dump
 start S written = record {
   connections = replicate S.connections (new_connection S);
   streams = 0;
@@ -189,89 +196,94 @@ start S written = record {
 }
 
 -- the sum of two numbers, or the greatest number of 64 bits if the sum is greater
-abbrev pub sum_within : ℕ → ℕ → ℕ
-sum_within a b = min (a + b) (2 ^ 64 - 1)
+abbrev pub saturating_sum : (count more : ℕ) → ℕ
+saturating_sum a b = min (a + b) (2 ^ 64 - 1)
 
 -- the number of the next stream, when this number of streams have begun before it
-abbrev pub number_in : Setup → ℕ → ℕ
-number_in S begun = sum_within S.first begun
+abbrev pub next_stream_number : (S : Setup) (begun : ℕ) → ℕ
+next_stream_number S begun = saturating_sum S.first begun
 
 -- the connection of a flow, if the flow has one
-abbrev pub connection_of : Dump → ℕ → Option Connection
+abbrev pub connection_of : (d : Dump) (id : ℕ) → Option Connection
 connection_of d id = slice_get d.connections (id / 2)
 
-abbrev pub with_connection : Dump → ℕ → Connection → Dump
+abbrev pub with_connection : (d : Dump) (id : ℕ) (c : Connection) → Dump
 with_connection d id c = record d { connections = set d.connections (id / 2) c }
 
-abbrev pub opened_in : Dump → ℕ → Flow → Option Connection → Dump
-opened_in d id flow None = d
-opened_in d id flow (Some c) = with_connection d id (opened (side_of id) flow c)
+abbrev pub dump_after_open : (d : Dump) (id : ℕ) (flow : Flow) (c : Option Connection) → Dump
+dump_after_open d id flow None = d
+dump_after_open d id flow (Some c) = with_connection d id (flow_opened (side_of id) flow c)
 
-abbrev pub begun_in : Setup → Dump → ℕ → Start → Option Connection → Dump
-begun_in S d id start None = record d { streams = counted d.streams }
-begun_in S d id start (Some c) =
-    record (with_connection d id (begun (side_of id) (number_in S d.streams) c)) {
-      streams = counted d.streams;
-      text = d.text ++ with_tags (stream_tag (number_in S d.streams))
+abbrev pub dump_after_begin : (S : Setup) (d : Dump) (id : ℕ) (start : Start)
+    (c : Option Connection) → Dump
+dump_after_begin S d id start None = record d { streams = saturating_next d.streams }
+dump_after_begin S d id start (Some c) =
+    record (with_connection d id (stream_begun (side_of id) (next_stream_number S d.streams) c)) {
+      streams = saturating_next d.streams;
+      text = d.text ++ with_tags (stream_tag (next_stream_number S d.streams))
           (begin_lines (half (side_of id) c).flow (opening (side_of id) d.arrival.time start c));
     }
 
-abbrev pub delivered_in : Setup → Answers → Dump → ℕ → List ℕ → Option Connection → Dump
-delivered_in S a d id octets None = d
-delivered_in S a d id octets (Some c) =
-    record (with_connection d id (delivered S a (side_of id) octets d.arrival c)) {
+abbrev pub dump_after_octets : (S : Setup) (a : Answers) (d : Dump) (id : ℕ) (octets : List ℕ)
+    (c : Option Connection) → Dump
+dump_after_octets S a d id octets None = d
+dump_after_octets S a d id octets (Some c) =
+    record (with_connection d id (octets_delivered S a (side_of id) octets d.arrival c)) {
       text = d.text ++ with_tags (stream_tag (half (side_of id) c).stream)
-          (delivered_lines S a (side_of id) octets d.arrival c);
+          (lines_of_delivered S a (side_of id) octets d.arrival c);
     }
 
 -- whether a stream that closes for this cause is cut
-abbrev pub cuts : CloseCause → Bool
-cuts Gap = true
-cuts Room = true
-cuts Fin = false
-cuts Reset = false
-cuts Syn = false
-cuts Fault = false
-cuts End = false
+abbrev pub cuts_stream : CloseCause → Bool
+cuts_stream Gap = true
+cuts_stream Room = true
+cuts_stream Fin = false
+cuts_stream Reset = false
+cuts_stream Syn = false
+cuts_stream Fault = false
+cuts_stream End = false
 
-abbrev pub closed_in : Setup → Dump → ℕ → CloseCause → Option Connection → Dump
-closed_in S d id cause None = d
-closed_in S d id cause (Some c) =
+abbrev pub dump_after_close : (S : Setup) (d : Dump) (id : ℕ) (cause : CloseCause)
+    (c : Option Connection) → Dump
+dump_after_close S d id cause None = d
+dump_after_close S d id cause (Some c) =
     let s = half (side_of id) c in
     let totals = final (rules_in S s.answers) s.octets in
-    record (with_connection d id (ended (side_of id) c)) {
-      messages = sum_within d.messages totals.messages;
-      faults = sum_within d.faults totals.faults;
-      is_cut = d.is_cut || cuts cause;
+    record (with_connection d id (stream_ended (side_of id) c)) {
+      messages = saturating_sum d.messages totals.messages;
+      faults = saturating_sum d.faults totals.faults;
+      is_cut = d.is_cut || cuts_stream cause;
       text = d.text ++ with_tags (stream_tag s.stream) (closed_lines S (side_of id) cause c);
     }
 
 -- the dump after an event, if the ids of the messages of the stream that is read answer these
 -- operations
-abbrev pub stepped : Setup → Answers → Dump → Event → Dump
-stepped S a d (Opens id flow) = opened_in d id flow (connection_of d id)
-stepped S a d (Begins id start) = begun_in S d id start (connection_of d id)
-stepped S a d (Delivers id octets) = delivered_in S a d id octets (connection_of d id)
-stepped S a d (Closes id cause) = closed_in S d id cause (connection_of d id)
-stepped S a d (OfCapture (ComesFrom arrival)) = record d { arrival = arrival }
-stepped S a d (OfCapture (Passes octets)) = record d { others = counted d.others }
-stepped S a d (OfCapture (HasFault word at)) =
+abbrev pub dump_after_event : (setup : Setup) (answers : Answers) (before : Dump) (event : Event) →
+    Dump
+dump_after_event S a d (Opens id flow) = dump_after_open d id flow (connection_of d id)
+dump_after_event S a d (Begins id start) = dump_after_begin S d id start (connection_of d id)
+dump_after_event S a d (Delivers id octets) = dump_after_octets S a d id octets (connection_of d id)
+dump_after_event S a d (Closes id cause) = dump_after_close S d id cause (connection_of d id)
+dump_after_event S a d (OfCapture (ComesFrom arrival)) = record d { arrival = arrival }
+dump_after_event S a d (OfCapture (Passes octets)) = record d { others = saturating_next d.others }
+dump_after_event S a d (OfCapture (HasFault word at)) =
     record d { is_cut = true; text = d.text ++ capture_fault_line word at }
 
 -- if the event delivers octets, these answers are those of the calls
-abbrev pub Answered : Setup → Answers → Dump → Event → Type 0
-Answered S a d (Delivers id octets) =
-    IfSome (connection_of d id) (λ c. IsAnswered S a (side_of id) octets d.arrival c)
-Answered S a d (Opens id flow) = Unit {0}
-Answered S a d (Begins id start) = Unit {0}
-Answered S a d (Closes id cause) = Unit {0}
-Answered S a d (OfCapture event) = Unit {0}
+abbrev pub AnswersFitEvent : (setup : Setup) (answers : Answers) (before : Dump) (event : Event) →
+    Type 0
+AnswersFitEvent S a d (Delivers id octets) =
+    IfSome (connection_of d id) (λ c. AnswersAreOfCalls S a (side_of id) octets d.arrival c)
+AnswersFitEvent S a d (Opens id flow) = Unit {0}
+AnswersFitEvent S a d (Begins id start) = Unit {0}
+AnswersFitEvent S a d (Closes id cause) = Unit {0}
+AnswersFitEvent S a d (OfCapture event) = Unit {0}
 
 -- The event leads from one dump to the next, by some answers.
 pub record Step (S : Setup) (d : Dump) (e : Event) (behind : Dump) : Type 0 where
   pub answers : Answers
-  pub answered : Answered S answers d e
-  pub is : behind ≡ stepped S answers d e
+  pub answered : AnswersFitEvent S answers d e
+  pub is : behind ≡ dump_after_event S answers d e
 
 -- a connection, without the answers of its streams
 abbrev pub unanswered : Connection → Connection
@@ -284,12 +296,12 @@ abbrev pub without_answers : Dump → Dump
 without_answers d = record d { connections = map unanswered d.connections }
 
 -- The events lead from one dump to another.
-abbrev pub Leads : Setup → Dump → List Event → Dump → Type 0
+abbrev pub Leads : (S : Setup) (d : Dump) (events : List Event) (behind : Dump) → Type 0
 Leads S d [] behind = behind ≡ d
 Leads S d (e ∷ es) behind = (between : Dump) × Step S d e between × Leads S between es behind
 
 -- the sums of a capture that has this number of packets and octets
-abbrev pub totals_of : Dump → ℕ → ℕ → CaptureTotals
+abbrev pub totals_of : (d : Dump) (packets octets : ℕ) → CaptureTotals
 totals_of d packets octets = record {
   streams = d.streams;
   messages = d.messages;
@@ -300,5 +312,5 @@ totals_of d packets octets = record {
 }
 
 -- the text of a capture that has this number of packets and octets, with its last line
-abbrev pub finished_text : Dump → ℕ → ℕ → List ℕ
+abbrev pub finished_text : (d : Dump) (packets octets : ℕ) → List ℕ
 finished_text d packets octets = d.text ++ capture_total_line (totals_of d packets octets)

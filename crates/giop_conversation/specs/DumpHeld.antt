@@ -10,50 +10,52 @@ use Rattle.giop_conversation.specs.declared.conversation.Conversation.{Conversat
 use Rattle.giop_conversation.specs.declared.lines.CaptureTotals.{CaptureTotals}
 use Rattle.giop_conversation.specs.Tags.{stream_tag, with_tags}
 use Rattle.giop_conversation.specs.TaggedState.{Tagging, IsReady, WroteTaggedFront}
-use Rattle.giop_conversation.specs.Exchanges.{Exchanged}
+use Rattle.giop_conversation.specs.Exchanges.{ExchangeView}
 use Rattle.giop_conversation.specs.Directions.{DirectionView}
 use Rattle.giop_conversation.specs.Followed.{other}
-use Rattle.giop_conversation.specs.Captured.{Setup, Half, Connection, Dump, Leads, start, finished_text, half, IsAnswered, delivered, delivered_lines}
+use Rattle.giop_conversation.specs.Captured.{Setup, Half, Connection, Dump, Leads, start, finished_text, half, AnswersAreOfCalls, octets_delivered, lines_of_delivered}
 
 -- a direction holds one flow of a connection
-pub record HoldsHalf (S : Setup) (d : DirectionView) (s : Half) : Type 0 where
-  pub holds : HoldsBy d.engine s.answers s.octets
-  pub table : d.engine.table ≡ S.table
-  pub most : d.engine.most ≡ S.messages
-  pub stream : d.stream ≡ s.stream
-  pub live : d.is_live ≡ s.is_live
-  pub flow : d.flow ≡ s.flow
+pub record HoldsHalf (S : Setup) (direction : DirectionView) (flow_state : Half) : Type 0 where
+  pub holds : HoldsBy direction.engine flow_state.answers flow_state.octets
+  pub table : direction.engine.table ≡ S.table
+  pub most : direction.engine.most ≡ S.messages
+  pub stream : direction.stream ≡ flow_state.stream
+  pub live : direction.is_live ≡ flow_state.is_live
+  pub flow : direction.flow ≡ flow_state.flow
 
 -- The exchange has the calls of a connection. Those of this flow are its own.
-pub record HasCalls (side : Side) (calls : Exchanged) (c : Connection) : Type 0 where
+pub record HasCalls (side : Side) (calls : ExchangeView) (c : Connection) : Type 0 where
   pub own : calls.own ≡ (half side c).calls
   pub opposite : calls.opposite ≡ (half (other side) c).calls
 
 -- a conversation holds a connection: both flows, and the calls
-pub record HoldsConnection (S : Setup) (r : Conversation) (c : Connection) : Type 0 where
-  pub even : HoldsHalf S r.even c.even
-  pub odd : HoldsHalf S r.odd c.odd
-  pub calls : HasCalls r.side r.exchange c
+pub record HoldsConnection (S : Setup) (conversation : Conversation)
+    (connection : Connection) : Type 0 where
+  pub even : HoldsHalf S conversation.even connection.even
+  pub odd : HoldsHalf S conversation.odd connection.odd
+  pub calls : HasCalls conversation.side conversation.exchange connection
 
 -- What a call that reads octets of a flow has done. There are answers that are those of the calls.
 -- By these, the conversation holds the connection after the octets, and the text below ends in
 -- their lines, each with the tag of the stream. If a put failed, the text below ends in a front of
 -- those lines.
-pub record ReadsBy {A E : Type 0} (S : Setup) (c : Connection) (side : Side) (octets : List ℕ)
+pub record HasReadFlow {A E : Type 0} (S : Setup) (c : Connection) (side : Side) (octets : List ℕ)
     (arrival : Arrival) (w : List ℕ) (result : Result A E) (r : Conversation) (out : Tagging) :
     Type 0
   where
     pub answers : Answers
-    pub answered : IsAnswered S answers side octets arrival c
+    pub answered : AnswersAreOfCalls S answers side octets arrival c
     pub reads : MatchResult result
-        (λ _. HoldsConnection S r (delivered S answers side octets arrival c)
+        (λ _. HoldsConnection S r (octets_delivered S answers side octets arrival c)
         × IsReady out (w ++ with_tags (stream_tag (half side c).stream)
-        (delivered_lines S answers side octets arrival c)))
+        (lines_of_delivered S answers side octets arrival c)))
         (λ _. WroteTaggedFront out w (stream_tag (half side c).stream)
-        (delivered_lines S answers side octets arrival c))
+        (lines_of_delivered S answers side octets arrival c))
 
 -- the conversations hold the connections, each the one at its place in the list
-abbrev pub AreHeld : Setup → List Conversation → List Connection → Type 0
+abbrev pub AreHeld : (S : Setup) (conversations : List Conversation)
+    (connections : List Connection) → Type 0
 AreHeld S [] [] = Unit {0}
 AreHeld S [] (c ∷ cs) = ⊥
 AreHeld S (r ∷ rs) [] = ⊥

@@ -10,7 +10,7 @@ use Rattle.giop_calls.specs.Outstanding.{without}
 use Rattle.giop_sig.specs.Table.{Table, op_id}
 use Rattle.giop_message.specs.MessageState.{AreKnown}
 use Rattle.giop_message.specs.HeaderEnds.{CallEvent, Requested, Replied, Raised, HasKnownOperation}
-use Rattle.giop_conversation.specs.Exchanges.{Exchanged, answer_of, call_of, notified, operation_numbered}
+use Rattle.giop_conversation.specs.Exchanges.{ExchangeView, answer_of, outstanding_call, notified, operation_numbered}
 
 -- after the entry of an id is taken out, none of that id is found
 none_found : (id : ℕ) (es : List (Entry Call)) → find (λ e. e.key == id) (without id es) ≡ None
@@ -58,7 +58,7 @@ fits_still C table id other es fits = by (other == id) refl
         rw (same, none_found id es) tt
     by false is = rw (others_found id other es is) fits
 
-pub known_still : (C : Table) (s : Exchanged) (event : CallEvent) → AreKnown C (answer_of s) →
+pub known_still : (C : Table) (s : ExchangeView) (event : CallEvent) → AreKnown C (answer_of s) →
     HasKnownOperation C event → AreKnown C (answer_of (notified s event))
 known_still C s (Requested number id name operation expects) known fits = known
 known_still C s (Replied number id) known fits =
@@ -86,5 +86,5 @@ by_call : (C : Table) (o : Option Call) →
 by_call C None = tt
 by_call C (Some call) = known_by C call.operation
 
-pub all_known : (s : Exchanged) → AreKnown s.table (answer_of s)
-all_known s id = by_call s.table (call_of s.opposite id)
+pub all_known : (s : ExchangeView) → AreKnown s.table (answer_of s)
+all_known s id = by_call s.table (outstanding_call s.opposite id)

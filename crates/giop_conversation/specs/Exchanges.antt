@@ -24,7 +24,7 @@ pub record Raising : Type 0 where
   pub message : ℕ
   pub name : List ℕ
 
-pub record Exchanged : Type 0 where
+pub record ExchangeView : Type 0 where
   pub table : Table  -- the operations by their numbers
   pub own : Entries Call  -- the calls of the direction that is read
   pub opposite : Entries Call  -- the calls of the opposite direction, which the Replies answer
@@ -39,31 +39,33 @@ pub record CallPair : Type 0 where
   pub own : Entries Call
   pub opposite : Entries Call
 
-abbrev pub with_entries : Entries Call → List (Entry Call) → Entries Call
+abbrev pub with_entries : (calls : Entries Call) (entries : List (Entry Call)) → Entries Call
 with_entries calls es = record calls { entries = es }
 
 -- the outstanding call of an id, if there is one
-abbrev pub call_of : Entries Call → ℕ → Option Call
-call_of calls id = option_map (λ e. e.value) (find (λ e. e.key == id) calls.entries)
+abbrev pub outstanding_call : (calls : Entries Call) (id : ℕ) → Option Call
+outstanding_call calls id = option_map (λ e. e.value) (find (λ e. e.key == id) calls.entries)
 
 -- the operation of a number, if the table has it
-abbrev pub operation_numbered : Table → ℕ → Option OpId
-operation_numbered C n = if nat_lt n (length C.operations) then Some (op_id n) else None
+abbrev pub operation_numbered : (C : Table) (number : ℕ) → Option OpId
+operation_numbered C number =
+    if nat_lt number (length C.operations) then Some (op_id number) else None
 
 -- the operation that a Reply of this id has results of: the operation of the call that it answers
-abbrev pub answer_of : Exchanged → Answer
+abbrev pub answer_of : (exchange : ExchangeView) → Answer
 answer_of s id =
     option_and_then (λ call. option_and_then (operation_numbered s.table) call.operation)
-    (call_of s.opposite id)
+    (outstanding_call s.opposite id)
 
 -- the name by which a call is kept, if it is kept: a reply is expected, and the name has at most
 -- 128 octets, because a line shows no longer name
-abbrev pub kept_name : Option (List ℕ) → Bool → Option (List ℕ)
+abbrev pub kept_name : (name : Option (List ℕ)) (expects : Bool) → Option (List ℕ)
 kept_name None expects = None
 kept_name (Some name) expects = if expects && nat_le (length name) 128 then Some name else None
 
-abbrev pub call_named : Exchanged → ℕ → List ℕ → Option OpId → Call
-call_named s number name operation = record {
+abbrev pub new_call : (s : ExchangeView) (number : ℕ) (name : List ℕ) (operation : Option OpId) →
+    Call
+new_call s number name operation = record {
   name = record { items = name };
   operation = option_map (λ o. o.0) operation;
   stream = s.stream;
@@ -72,30 +74,32 @@ call_named s number name operation = record {
 }
 
 -- the calls of the stream after a Request of this number and id; an older call of the same id goes
-abbrev pub requested : Exchanged → ℕ → ℕ → Option (List ℕ) → Option OpId → Entries Call
-requested s number id None operation = with_entries s.own (without id s.own.entries)
-requested s number id (Some name) operation =
+abbrev pub own_after_request : (s : ExchangeView) (number id : ℕ) (name : Option (List ℕ))
+    (operation : Option OpId) → Entries Call
+own_after_request s number id None operation = with_entries s.own (without id s.own.entries)
+own_after_request s number id (Some name) operation =
     with_entries s.own (newest s.own.most (without id s.own.entries
-    ++ record { key = id; value = call_named s number name operation } ∷ []))
+    ++ record { key = id; value = new_call s number name operation } ∷ []))
 
 -- the exception that is kept of a Reply, if its name has at most 128 octets, because a line shows
 -- no longer name
-abbrev pub kept_exception : ℕ → List ℕ → Option Raising
+abbrev pub kept_exception : (number : ℕ) (name : List ℕ) → Option Raising
 kept_exception number name =
     if nat_le (length name) 128 then Some (record { message = number; name = name }) else None
 
 -- whether lines wait to be written of a Reply: it answers a call, or raises an exception
-abbrev pub is_waiting : Exchanged → Bool
-is_waiting s = is_some s.answered || is_some s.raised
+abbrev pub is_reply_line_due : ExchangeView → Bool
+is_reply_line_due s = is_some s.answered || is_some s.raised
 
 -- the calls after an event: the end of a Request's header; the end of a Reply's header, which takes
 -- away the call that it answers; or the name of an exception that a Reply raises
-abbrev pub notified : Exchanged → CallEvent → Exchanged
+abbrev pub notified : (before : ExchangeView) (event : CallEvent) → ExchangeView
 notified s (Requested number id name operation expects) =
-    record s { own = requested s number id (kept_name name expects) operation }
+    record s { own = own_after_request s number id (kept_name name expects) operation }
 notified s (Replied number id) = record s {
   opposite = with_entries s.opposite (without id s.opposite.entries);
   replied = number;
-  answered = option_map (λ call. record { message = number; call = call }) (call_of s.opposite id);
+  answered = option_map (λ call. record { message = number; call = call })
+      (outstanding_call s.opposite id);
 }
 notified s (Raised number name) = record s { raised = kept_exception number name }

@@ -12,54 +12,55 @@ use Rattle.tcp_segment.specs.declared.endpoint.Flow.{Flow}
 use Rattle.tcp_waiting.specs.declared.arrival.Arrival.{Arrival}
 use Rattle.giop_conversation.specs.declared.lines.Opening.{Opening}
 use Rattle.giop_conversation.specs.Lines.{stream_line, time_line, answers_line, raises_line}
-use Rattle.giop_conversation.specs.Exchanges.{Exchanged, Answering, Raising, notified}
+use Rattle.giop_conversation.specs.Exchanges.{ExchangeView, Answering, Raising, notified}
 
 -- the line with which a stream begins, if it is known who sends to whom
-abbrev pub begin_lines : Option Flow → Opening → List ℕ
+abbrev pub begin_lines : (flow : Option Flow) (opening : Opening) → List ℕ
 begin_lines None opening = []
 begin_lines (Some flow) opening = stream_line flow opening
 
 -- the line that says when the message of this number began, if there is one
-abbrev pub time_due : Option ℕ → Arrival → List ℕ
-time_due None arrival = []
-time_due (Some message) arrival = time_line message arrival
+abbrev pub due_time_line : (message : Option ℕ) (arrival : Arrival) → List ℕ
+due_time_line None arrival = []
+due_time_line (Some message) arrival = time_line message arrival
 
 -- the line that says which call a Reply answers, if it answers one
-abbrev pub answers_due : Option Answering → Option ℕ → List ℕ
-answers_due None time = []
-answers_due (Some a) time = answers_line a.message a.call time
+abbrev pub due_answers_line : (a : Option Answering) (time : Option ℕ) → List ℕ
+due_answers_line None time = []
+due_answers_line (Some a) time = answers_line a.message a.call time
 
 -- the line that says which exception a Reply raises, if it raises one
-abbrev pub raises_due : Option Raising → List ℕ
-raises_due None = []
-raises_due (Some r) = raises_line r.message r.name
+abbrev pub due_raises_line : (raising : Option Raising) → List ℕ
+due_raises_line None = []
+due_raises_line (Some r) = raises_line r.message r.name
 
 -- the calls of the connection after they were told of each header that ends in these octets after
--- the stream p
-abbrev pub told : Rules → Exchanged → List ℕ → List ℕ → Exchanged
-told R s p octets = after_ends notified s.table s (header_ends_from R p octets)
+-- the stream
+abbrev pub after_headers : (R : Rules) (s : ExchangeView) (stream octets : List ℕ) → ExchangeView
+after_headers R s stream octets = after_ends notified s.table s (header_ends_from R stream octets)
 
 -- the calls after the lines of a Reply were written
-abbrev pub taken : Exchanged → Exchanged
-taken s = record s { answered = None; raised = None }
+abbrev pub reply_forgotten : (exchange : ExchangeView) → ExchangeView
+reply_forgotten s = record s { answered = None; raised = None }
 
--- the lines that are due after these octets of the stream p, which came in the packet that the
+-- the lines that are due after these octets of the stream, which came in the packet that the
 -- exchange has
-unfoldable pub lines_due : Rules → Exchanged → List ℕ → List ℕ → List ℕ
-lines_due R s p octets =
-    time_due (begun_in p octets) s.arrival
-    ++ (answers_due (told R s p octets).answered s.arrival.time
-    ++ raises_due (told R s p octets).raised)
+unfoldable pub lines_due : (R : Rules) (s : ExchangeView) (stream octets : List ℕ) → List ℕ
+lines_due R s stream octets =
+    due_time_line (begun_in stream octets) s.arrival
+    ++ (due_answers_line (after_headers R s stream octets).answered s.arrival.time
+    ++ due_raises_line (after_headers R s stream octets).raised)
 
--- the calls of the connection after these octets, which come after the stream p
-unfoldable pub exchanged : Rules → Exchanged → List ℕ → List ℕ → Exchanged
-exchanged R s p [] = s
-exchanged R s p (x ∷ xs) = exchanged R (taken (told R s p (x ∷ []))) (p ++ x ∷ []) xs
+-- the calls of the connection after these octets, which come after the stream
+unfoldable pub after_octets : (R : Rules) (s : ExchangeView) (stream octets : List ℕ) → ExchangeView
+after_octets R s stream [] = s
+after_octets R s stream (x ∷ xs) = after_octets R (reply_forgotten (after_headers R s stream
+    (x ∷ []))) (stream ++ x ∷ []) xs
 
--- what is written of these octets after the stream p: the lines of each octet, and then the lines
+-- what is written of these octets after the stream: the lines of each octet, and then the lines
 -- that are due after it
-unfoldable pub stamped : Rules → Exchanged → List ℕ → List ℕ → List ℕ
-stamped R s p [] = []
-stamped R s p (x ∷ xs) =
-    (added R p (x ∷ []) ++ lines_due R s p (x ∷ []))
-    ++ stamped R (taken (told R s p (x ∷ []))) (p ++ x ∷ []) xs
+unfoldable pub stamped : (R : Rules) (s : ExchangeView) (stream octets : List ℕ) → List ℕ
+stamped R s stream [] = []
+stamped R s stream (x ∷ xs) =
+    (added R stream (x ∷ []) ++ lines_due R s stream (x ∷ []))
+    ++ stamped R (reply_forgotten (after_headers R s stream (x ∷ []))) (stream ++ x ∷ []) xs

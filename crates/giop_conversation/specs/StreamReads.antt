@@ -9,27 +9,32 @@ use Rattle.giop_stream.specs.DueOctets.{is_due_after}
 use Rattle.tcp_waiting.specs.declared.arrival.Arrival.{Arrival}
 use Rattle.giop_conversation.specs.Tags.{with_tags}
 use Rattle.giop_conversation.specs.TaggedState.{Tagging, tagging_log, IsReady, WroteTaggedFront}
-use Rattle.giop_conversation.specs.Exchanges.{Exchanged, answer_of, notified, is_waiting}
+use Rattle.giop_conversation.specs.Exchanges.{ExchangeView, answer_of, notified, is_reply_line_due}
 
 -- These answers agree with the calls of the connection at each header that ends in these octets
--- after the stream p. If it is the header of a Reply, the Reply has results of the operation of the
+-- after the stream. If it is the header of a Reply, the Reply has results of the operation of the
 -- call that it answers.
-abbrev pub AgreeWith : EngineView → Answers → Exchanged → List ℕ → List ℕ → Type 0
-AgreeWith e a s p octets = AgreesOver answer_of notified s e a p octets
+abbrev pub AgreeWith : (e : EngineView) (a : Answers) (s : ExchangeView) (stream octets : List ℕ) →
+    Type 0
+AgreeWith e a s stream octets = AgreesOver answer_of notified s e a stream octets
 
--- no line of the conversation is due after these octets, which come after the stream p
-abbrev pub IsUndueAfter : EngineView → Answers → Exchanged → List ℕ → List ℕ → Type 0
-IsUndueAfter e a s p octets =
-    is_due_after is_waiting notified true e.table s (rules_with e a) p octets ≡ false
+-- no line of the conversation is due after these octets, which come after the stream
+abbrev pub NoLineDueAfter : (e : EngineView) (a : Answers) (s : ExchangeView) (stream octets : List
+    ℕ) →
+    Type 0
+NoLineDueAfter e a s stream octets =
+    is_due_after is_reply_line_due notified true e.table s (rules_with e a) stream octets ≡ false
 
 -- an engine reads by the same types as one before, and allows the same number of open messages
-pub record IsSetAlike (e before : EngineView) : Type 0 where
-  pub table : e.table ≡ before.table
-  pub most : e.most ≡ before.most
+pub record HasSameSetup (engine before : EngineView) : Type 0 where
+  pub table : engine.table ≡ before.table
+  pub most : engine.most ≡ before.most
 
 -- the calls of the connection, when a stream of this number is read in this packet
-abbrev pub reading_in : EngineView → ℕ → Arrival → Exchanged → Exchanged
-reading_in e stream arrival s =
+abbrev pub exchange_for_reading : (e : EngineView) (stream : ℕ) (arrival : Arrival)
+    (s : ExchangeView) →
+    ExchangeView
+exchange_for_reading e stream arrival s =
     record s {
       table = e.table;
       stream = stream;
@@ -42,22 +47,25 @@ reading_in e stream arrival s =
 
 -- The engine holds the stream p, these lines were written through the out with tags, and the calls
 -- are these.
-pub record HasCome (e : EngineView) (a : Answers) (p : List ℕ) (before after : Tagging)
-    (lines : List ℕ) (calls due : Exchanged) : Type 0 where
-  pub holds : HoldsBy e a p
+pub record ReadAndWroteThrough (engine : EngineView) (answers : Answers) (stream : List ℕ)
+    (before after : Tagging)
+    (lines : List ℕ) (calls expected : ExchangeView) : Type 0 where
+  pub holds : HoldsBy engine answers stream
   pub wrote : Wrote (tagging_log before) (tagging_log after) lines
-  pub told : calls ≡ due
+  pub told : calls ≡ expected
 
 -- The engine holds the stream p, this was written to the out below, and the calls are these.
-pub record HasStood (e : EngineView) (a : Answers) (p : List ℕ) (after : Tagging)
-    (below : List ℕ) (calls due : Exchanged) : Type 0 where
-  pub holds : HoldsBy e a p
+pub record ReadAndWroteBelow (engine : EngineView) (answers : Answers) (stream : List ℕ)
+    (after : Tagging)
+    (below : List ℕ) (calls expected : ExchangeView) : Type 0 where
+  pub holds : HoldsBy engine answers stream
   pub ready : IsReady after below
-  pub told : calls ≡ due
+  pub told : calls ≡ expected
 
 -- The text below goes on with these lines, each with the tag in front. If a put failed, it goes on
 -- with a front of them, and maybe with the beginning of a tag.
-abbrev pub WritesTagged : {A E : Type 0} → Result A E → Tagging → List ℕ → List ℕ → List ℕ → Type 0
-WritesTagged result after w tag lines =
-    MatchResult result (λ _. IsReady after (w ++ with_tags tag lines))
-    (λ _. WroteTaggedFront after w tag lines)
+abbrev pub WritesTagged : {A E : Type 0} (result : Result A E) (after : Tagging)
+    (text tag lines : List ℕ) → Type 0
+WritesTagged result after text tag lines =
+    MatchResult result (λ _. IsReady after (text ++ with_tags tag lines))
+    (λ _. WroteTaggedFront after text tag lines)

@@ -3,14 +3,14 @@
 -- capture; meaning). A stream is named by its number.
 use Rattle.std.specs.Prelude.{◌≡◌, ℕ, ◌<◌, ◌^◌, ◌-◌, ◌/◌, ◌==◌, Bool, true, false, ◌||◌, nat_lt, List, [], ◌∷◌, ◌++◌, Option, None, if◌then◌else◌}
 use Rattle.std.specs.List.{AllByRecursion as Each}
-use Rattle.giop_print.specs.Output.{counted}
+use Rattle.giop_print.specs.Output.{saturating_next}
 use Rattle.giop_message.specs.Signatures.{Answers}
 use Rattle.giop_stream.specs.Rules.{Rules}
 use Rattle.giop_stream.specs.Stream.{text, closing}
 use Rattle.tcp_flow.specs.Flow.{Event, Opens, Begins, Delivers, Closes, OfCapture}
-use Rattle.tcp_flow.specs.Laws.{AllFollow}
-use Rattle.giop_conversation.specs.Captured.{Setup, Dump, Leads, rules_in, number_in}
-use Rattle.giop_conversation.specs.CaptureParts.{Part, text_of, IsWhole, read_of, own_of}
+use Rattle.tcp_flow.specs.Laws.{EventsMayFollow}
+use Rattle.giop_conversation.specs.Captured.{Setup, Dump, Leads, rules_in, next_stream_number}
+use Rattle.giop_conversation.specs.CaptureParts.{CapturePart, parts_text, IsWholeLines, giopdump_read_lines_of, giopdump_lines_of}
 
 -- what has happened in a stream
 pub record StreamHistory : Type 0 where
@@ -23,16 +23,16 @@ abbrev pub new_stream : StreamHistory
 new_stream = record { octets = []; answers = λ number id. None; is_closed = false; goes_on = false }
 
 -- a stream after octets were delivered, which were read by these answers
-abbrev pub read_on : Answers → List ℕ → StreamHistory → StreamHistory
-read_on a octets s =
+abbrev pub with_octets : (a : Answers) (octets : List ℕ) (s : StreamHistory) → StreamHistory
+with_octets a octets s =
     record s { octets = s.octets ++ octets; answers = a; goes_on = s.goes_on || s.is_closed }
 
-abbrev pub closed : StreamHistory → StreamHistory
-closed s = record s { is_closed = true; goes_on = s.goes_on || s.is_closed }
+abbrev pub with_close : StreamHistory → StreamHistory
+with_close s = record s { is_closed = true; goes_on = s.goes_on || s.is_closed }
 
 -- what giopdump writes of a stream: its text, and then its closing if the stream has closed
-abbrev pub dumped : Rules → StreamHistory → List ℕ
-dumped R s = text R s.octets ++ (if s.is_closed then closing R s.octets else [])
+abbrev pub giopdump_text : (rules : Rules) (stream : StreamHistory) → List ℕ
+giopdump_text R s = text R s.octets ++ (if s.is_closed then closing R s.octets else [])
 
 -- what has happened in the streams of a capture
 pub record History : Type 0 where
@@ -51,28 +51,29 @@ no_history = record {
 
 -- after a stream of this number has begun in the flow of this id; the Bool tells whether the flow's
 -- connection has a slot
-abbrev pub with_begun : History → ℕ → ℕ → Bool → History
+abbrev pub with_begun : (h : History) (id number : ℕ) (has_slot : Bool) → History
 with_begun h id number true =
     record h {
-      begun = counted h.begun;
+      begun = saturating_next h.begun;
       stream_of = λ flow. if flow == id then number else h.stream_of flow;
       has_slot = λ n. if n == number then true else h.has_slot n;
     }
-with_begun h id number false = record h { begun = counted h.begun }
+with_begun h id number false = record h { begun = saturating_next h.begun }
 
-abbrev pub with_stream : History → ℕ → StreamHistory → History
+abbrev pub with_stream : (h : History) (number : ℕ) (s : StreamHistory) → History
 with_stream h number s = record h { stream = λ n. if number == n then s else h.stream n }
 
 -- after one more event; if it delivers octets, these are read by the answers
-abbrev pub happened : Setup → Answers → History → Event → History
-happened S a h (Opens id flow) = h
-happened S a h (Begins id start) =
-    with_begun h id (number_in S h.begun) (nat_lt (id / 2) S.connections)
-happened S a h (Delivers id octets) =
-    with_stream h (h.stream_of id) (read_on a octets (h.stream (h.stream_of id)))
-happened S a h (Closes id cause) =
-    with_stream h (h.stream_of id) (closed (h.stream (h.stream_of id)))
-happened S a h (OfCapture event) = h
+abbrev pub history_after_event : (setup : Setup) (answers : Answers) (before : History)
+    (event : Event) → History
+history_after_event S a h (Opens id flow) = h
+history_after_event S a h (Begins id start) =
+    with_begun h id (next_stream_number S h.begun) (nat_lt (id / 2) S.connections)
+history_after_event S a h (Delivers id octets) =
+    with_stream h (h.stream_of id) (with_octets a octets (h.stream (h.stream_of id)))
+history_after_event S a h (Closes id cause) =
+    with_stream h (h.stream_of id) (with_close (h.stream (h.stream_of id)))
+history_after_event S a h (OfCapture event) = h
 
 -- after all events, which lead from one dump to another; the octets of each event are read by its
 -- answers
@@ -80,36 +81,38 @@ abbrev pub history : (S : Setup) → History → (d : Dump) → (events : List E
     Leads S d events behind → History
 history S h d [] behind leads = h
 history S h d (e ∷ es) behind leads =
-    history S (happened S leads.1.answers h e) leads.0 es behind leads.2
+    history S (history_after_event S leads.1.answers h e) leads.0 es behind leads.2
 
 -- The lines of a stream that giopdump writes too are exactly giopdump's. Those of its octets are
 -- its text. And unless the stream goes on after its close, those of its octets and of its end
 -- together are what giopdump writes of it.
-pub record IsDumped (S : Setup) (s : StreamHistory) (reads own : List ℕ) : Type 0 where
-  pub reads_are : reads ≡ text (rules_in S s.answers) s.octets
-  pub own_are : s.goes_on ≡ false → own ≡ dumped (rules_in S s.answers) s
+pub record IsDumped (S : Setup) (stream_history : StreamHistory) (reads own : List ℕ) : Type 0 where
+  pub reads_are : reads ≡ text (rules_in S stream_history.answers) stream_history.octets
+  pub own_are : stream_history.goes_on ≡ false → own
+      ≡ giopdump_text (rules_in S stream_history.answers) stream_history
 
 -- In each flow, octets come and a stream closes only while a stream lives there, as in a flow
 -- without a gap (tcp_flow, Laws).
-abbrev pub AreGapless : List Event → Type 0
+abbrev pub AreGapless : (events : List Event) → Type 0
 AreGapless events =
-    (flow : ℕ) → (payloads : _) × (due : Option ℕ) × AllFollow payloads flow None events due
+    (flow : ℕ) → (payloads : _) × (due : Option ℕ) × EventsMayFollow payloads flow None events due
 
 -- In each flow, octets come and a stream closes only while a stream lives there, and each stream
 -- that began has closed.
-abbrev pub AreWhole : List Event → Type 0
-AreWhole events = (flow : ℕ) → (payloads : _) × AllFollow payloads flow None events None
+abbrev pub AreWhole : (events : List Event) → Type 0
+AreWhole events = (flow : ℕ) → (payloads : _) × EventsMayFollow payloads flow None events None
 
 -- The number is one that no two streams have: it is neither 0 nor the greatest, at which numbers
 -- stay.
-abbrev pub IsUnique : ℕ → Type 0
+abbrev pub IsUnique : (number : ℕ) → Type 0
 IsUnique number = (0 < number) × (number < 2 ^ 64 - 1)
 
 -- The text is what was written before, and then parts, each of whole lines. In them, the lines of
 -- each stream that giopdump writes too are exactly giopdump's.
 pub record ShowsStreams (S : Setup) (written : List ℕ) (h : History) (all : List ℕ) : Type 0 where
-  pub parts : List Part
-  pub whole : Each IsWhole parts
-  pub shows : all ≡ written ++ text_of parts
+  pub parts : List CapturePart
+  pub whole : Each IsWholeLines parts
+  pub shows : all ≡ written ++ parts_text parts
   pub streams : (number : ℕ) → IsUnique number →
-      IsDumped S (h.stream number) (read_of number parts) (own_of number parts)
+      IsDumped S (h.stream number) (giopdump_read_lines_of number parts) (giopdump_lines_of number
+      parts)

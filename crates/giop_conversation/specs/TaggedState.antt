@@ -9,7 +9,7 @@ use Rattle.std.specs.Prelude.{◌≡◌, ℕ, ◌-◌, ◌<◌, ◌≤◌, Bool,
 use Rattle.std.specs.Str.{bytes_eq}
 use Rattle.giop_print.specs.Output.{OutLog}
 use Rattle.giop_conversation.specs.Tags.{without_tags}
-use Rattle.giop_conversation.specs.TaggedText.{is_due, stopped_at, Stands}
+use Rattle.giop_conversation.specs.TaggedText.{is_tag_due, tagged_until_due, StandsTagged}
 
 pub record Tagging : Type 0 where
   pub whole : Option (List ℕ)  -- what was written to the out below, if that is known
@@ -17,66 +17,70 @@ pub record Tagging : Type 0 where
   pub tag : List ℕ
   pub due : ℕ  -- how many octets of the tag must be written before the next octet
   pub since : ℕ  -- how many octets were written since the tag was set
-  pub full : Bool  -- whether a call has failed without a put
+  pub refused : Bool  -- whether a call has failed without a put
   pub puts : ℕ
   pub failures : ℕ
 
 -- The whole tag is due, it has at least one octet, and it isn't longer than a block of 16.
-pub record IsShortDue (due : ℕ) (tag : List ℕ) : Type 0 where
+pub record IsShortTagDue (due : ℕ) (tag : List ℕ) : Type 0 where
   pub whole : due ≡ length tag
   pub some : 0 < length tag
   pub short : length tag ≤ 16
 
 -- a list of numbers that identifies the octets before the tag was set, and the tag
-abbrev pub identity : List ℕ → List ℕ → List ℕ
-identity before tag = length before ∷ length tag ∷ (before ++ tag)
+abbrev pub start_identity : (before tag : List ℕ) → List ℕ
+start_identity before tag = length before ∷ length tag ∷ (before ++ tag)
 
 -- the octets that were written since the tag was set
-abbrev pub body_of : ℕ → List ℕ → List ℕ
-body_of since w = drop (length w - since) w
+abbrev pub octets_since_tag : (since : ℕ) (written : List ℕ) → List ℕ
+octets_since_tag since written = drop (length written - since) written
 
-abbrev pub text_of : List ℕ → ℕ → List ℕ → List ℕ
-text_of tag since w = without_tags (length tag) (body_of since w)
+abbrev pub text_since_tag : (tag : List ℕ) (since : ℕ) (written : List ℕ) → List ℕ
+text_since_tag tag since written = without_tags (length tag) (octets_since_tag since written)
 
 -- if no put has failed and a tag is due, the whole tag is due
-abbrev pub is_clean : List ℕ → ℕ → ℕ → List ℕ → Bool
-is_clean tag due failures text = (not (failures == 0) || not (is_due text)) || due == length tag
+abbrev pub is_due_tag_whole : (tag : List ℕ) (due failures : ℕ) (text : List ℕ) → Bool
+is_due_tag_whole tag due failures text = (not (failures == 0) || not (is_tag_due text))
+    || due == length tag
 
 -- the octets since the tag was set are a text with tags; if a tag is due at their end, all of it
 -- but `due` octets stands there
-unfoldable pub is_tagged : List ℕ → ℕ → ℕ → ℕ → List ℕ → Bool
-is_tagged tag due since failures w =
-    (nat_le since (length w) && nat_le due (length tag))
-    && (bytes_eq (body_of since w) (stopped_at tag (text_of tag since w) due)
-    && ((is_due (text_of tag since w) || due == 0)
-    && is_clean tag due failures (text_of tag since w)))
+unfoldable pub is_tagged : (tag : List ℕ) (due since failures : ℕ) (written : List ℕ) → Bool
+is_tagged tag due since failures written =
+    (nat_le since (length written) && nat_le due (length tag))
+    && (bytes_eq (octets_since_tag since written) (tagged_until_due tag (text_since_tag tag since
+    written) due)
+    && ((is_tag_due (text_since_tag tag since written) || due == 0)
+    && is_due_tag_whole tag due failures (text_since_tag tag since written)))
 
-unfoldable pub shown : List ℕ → ℕ → ℕ → ℕ → List ℕ → Option (List ℕ)
-shown tag due since failures w =
-    if is_tagged tag due since failures w
-    then Some (identity (take (length w - since) w) tag ++ text_of tag since w)
+unfoldable pub written_through : (tag : List ℕ) (due since failures : ℕ) (written : List ℕ) →
+    Option (List ℕ)
+written_through tag due since failures written =
+    if is_tagged tag due since failures written
+    then Some (start_identity (take (length written - since) written) tag ++ text_since_tag tag
+    since written)
     else None
 
 abbrev pub tagging_log : Tagging → OutLog
 tagging_log t = record {
-  written = option_and_then (shown t.tag t.due t.since t.failures) t.whole;
+  written = option_and_then (written_through t.tag t.due t.since t.failures) t.whole;
   puts = t.puts;
   failures = t.failures;
 }
 
 -- No put has failed, exactly this was written to the out below, and the next octet begins a line.
-pub record IsReady (t : Tagging) (w : List ℕ) : Type 0 where
-  pub known : t.whole ≡ Some w
+pub record IsReady (t : Tagging) (written : List ℕ) : Type 0 where
+  pub known : t.whole ≡ Some written
   pub before : List ℕ
   pub text : List ℕ
-  pub stands : Stands w before t.tag t.since text t.due
-  pub ended : is_due text ≡ true
+  pub stands : StandsTagged written before t.tag t.since text t.due
+  pub ended : is_tag_due text ≡ true
   pub due : t.due ≡ length t.tag
   pub sound : t.failures ≡ 0
 
 -- A put failed: the text below is what was written before, then a front of these lines with the
 -- tag, and maybe the beginning of a tag.
-pub record WroteTaggedFront (t : Tagging) (w tag lines : List ℕ) : Type 0 where
+pub record WroteTaggedFront (t : Tagging) (text_before tag lines : List ℕ) : Type 0 where
   pub size : ℕ
   pub due : ℕ
-  pub whole : t.whole ≡ Some (w ++ stopped_at tag (take size lines) due)
+  pub whole : t.whole ≡ Some (text_before ++ tagged_until_due tag (take size lines) due)

@@ -47,14 +47,14 @@ impl BothCalls {
     }
 
     /// Turns to the other direction: its calls are the own ones from now on.
-    pub fn turn(&mut self)
+    pub fn swap_directions(&mut self)
         ensures { self.new ≡ record { own = self.old.opposite; opposite = self.old.own } }
     {
         self.is_turned = !self.is_turned;
     }
 
     /// The opposite call that a Reply with this request id answers.
-    pub fn find(&self, id: u32) -> Option<&Call>
+    pub fn find_opposite(&self, id: u32) -> Option<&Call>
         ensures { option_copied result ≡ option_map (λ e. e.value)
             (find (λ e. e.key == id) self.now.opposite.entries) }
     {
@@ -67,7 +67,7 @@ impl BothCalls {
 
     /// Takes the opposite call that a Reply with this request id answers.
     #[inline]
-    pub fn take(&mut self, id: u32) -> Option<Call>
+    pub fn take_opposite(&mut self, id: u32) -> Option<Call>
         ensures value { result ≡ option_map (λ e. e.value)
             (find (λ e. e.key == id) self.old.opposite.entries) }
         ensures calls { self.new ≡ record self.old {
@@ -83,7 +83,7 @@ impl BothCalls {
 
     /// Adds an own call as the newest one, as `Calls::add` does.
     #[inline]
-    pub fn add(&mut self, id: u32, call: Call)
+    pub fn add_own(&mut self, id: u32, call: Call)
         ensures { self.new ≡ record self.old {
           own = with_entries self.old.own (newest self.old.own.most
               (without id self.old.own.entries ++ record { key = id; value = call } ∷ []));
@@ -97,7 +97,7 @@ impl BothCalls {
     }
 
     /// Forgets the own call with this request id.
-    pub fn forget(&mut self, id: u32)
+    pub fn forget_own(&mut self, id: u32)
         ensures { self.new ≡ record self.old {
           own = with_entries self.old.own (without id self.old.own.entries);
         } }
@@ -110,7 +110,7 @@ impl BothCalls {
     }
 
     /// Forgets all own calls. The memory is kept.
-    pub fn clear(&mut self)
+    pub fn forget_all_own(&mut self)
         ensures { self.new ≡ record self.old { own = with_entries self.old.own [] } }
     {
         if self.is_turned {

@@ -3,7 +3,7 @@
 ghost use Rattle.std.specs.Prelude.{◌≡◌, ◌≤◌, ◌++◌, ℕ, List, [], IfOk, OnOk};
 ghost use Rattle.giop_stream.specs.Rules.{most_open};
 ghost use Rattle.giop_stream.specs.Framing.{cut, lacking};
-ghost use Rattle.giop_stream.specs.EngineHolds.{AreOf};
+ghost use Rattle.giop_stream.specs.EngineHolds.{IsRequestTableOf};
 ghost use Rattle.giop_conversation.specs.Failing.{FailsByPut};
 ghost use Rattle.giop_conversation.specs.Directions.{HasRead, fault_place};
 ghost use Rattle.giop_conversation.specs.Followed.{direction, other, side_of as spec_side_of};
@@ -12,8 +12,8 @@ ghost use Rattle.giop_conversation.specs.Tags.{stream_tag};
 ghost use Rattle.giop_conversation.specs.TaggedState.{IsReady};
 ghost use Rattle.giop_conversation.specs.Stamped.{begin_lines};
 ghost use Rattle.giop_conversation.specs.StreamReads.{WritesTagged};
-ghost use Rattle.giop_conversation.specs.Captured.{Setup, Connection, setup, half, new_connection, opened, begun, ended, closed_lines, rules_in, opening, live_stream};
-ghost use Rattle.giop_conversation.specs.DumpHeld.{HasCalls, HoldsConnection, ReadsBy};
+ghost use Rattle.giop_conversation.specs.Captured.{Setup, Connection, setup, half, new_connection, flow_opened, stream_begun, stream_ended, closed_lines, rules_in, opening, live_stream};
+ghost use Rattle.giop_conversation.specs.DumpHeld.{HasCalls, HoldsConnection, HasReadFlow};
 
 use crate::direction::Direction;
 use crate::exchange::Exchange;
@@ -70,7 +70,7 @@ impl<'a> Conversation<'a> {
         requests: &'a Requests,
         limits: Limits,
     ) -> Result<Conversation<'a>, MemoryError>
-        requires of { AreOf catalogue.now requests.now }
+        requires of { IsRequestTableOf catalogue.now requests.now }
         requires range { (1 ≤ limits.messages) × (limits.messages ≤ most_open) }
         ensures even { IfOk result (λ c. HasRead c.even.engine []) }
         ensures odd { IfOk result (λ c. HasRead c.odd.engine []) }
@@ -96,7 +96,7 @@ impl<'a> Conversation<'a> {
             HasCalls side self.new.exchange c }
     {
         if self.side != side {
-            self.exchange.turn();
+            self.exchange.swap_directions();
         }
         self.side = side;
     }
@@ -106,13 +106,13 @@ impl<'a> Conversation<'a> {
         ensures even { self.new.even.engine ≡ self.old.even.engine }
         ensures odd { self.new.odd.engine ≡ self.old.odd.engine }
         ensures held { (S : Setup) (c : Connection) → HoldsConnection S self.old c →
-            HoldsConnection S self.new (opened side flow c) }
+            HoldsConnection S self.new (flow_opened side flow c) }
     {
         self.turn_to(side);
-        self.exchange.forget();
+        self.exchange.forget_own_calls();
         match side {
-            Side::Even => self.even.open(flow),
-            Side::Odd => self.odd.open(flow),
+            Side::Even => self.even.set_flow(flow),
+            Side::Odd => self.odd.set_flow(flow),
         }
     }
 
@@ -140,7 +140,7 @@ impl<'a> Conversation<'a> {
         ensures other { direction (other side) self.new ≡ direction (other side) self.old }
         ensures fails { FailsByPut result out.old out.new }
         ensures held { (S : Setup) (c : Connection) → HoldsConnection S self.old c →
-            HoldsConnection S self.new (begun side stream c) }
+            HoldsConnection S self.new (stream_begun side stream c) }
         // After this the text below ends in the stream's first line, with the tag of the stream. After a failure it ends in
         // a front of that line.
         ensures text { (S : Setup) (c : Connection) (w : List ℕ) → HoldsConnection S self.old c →
@@ -164,7 +164,7 @@ impl<'a> Conversation<'a> {
         &mut self,
         side: Side,
         octets: &[u8],
-        arrival: Arrival,
+        arrival: &Arrival,
         out: &mut Tagged<O>,
     ) -> Result<Option<u64>, OutFault>
         ensures read { (p : List ℕ) → HasRead (direction side self.old).engine p →
@@ -177,7 +177,8 @@ impl<'a> Conversation<'a> {
         // with the tag of the stream, and the connection is the one after the octets. After a failure the text ends in a
         // front of those lines.
         ensures text { (S : Setup) (c : Connection) (w : List ℕ) → HoldsConnection S self.old c →
-            IsReady out.old w → ReadsBy S c side octets.now arrival w result self.new out.new }
+            IsReady out.old w →
+            HasReadFlow S c side octets.now arrival.now w result self.new out.new }
     {
         answers_agree();
         answers_go_on::<Exchange<'a>>();
@@ -210,7 +211,7 @@ impl<'a> Conversation<'a> {
         ensures even { self.new.even.engine ≡ self.old.even.engine }
         ensures odd { self.new.odd.engine ≡ self.old.odd.engine }
         ensures held { (S : Setup) (c : Connection) → HoldsConnection S self.old c →
-            HoldsConnection S self.new (ended side c) }
+            HoldsConnection S self.new (stream_ended side c) }
         ensures fails { FailsByPut result out.old out.new }
         // After this the text below ends in the line that says why the stream closes, and then the closing, each line with
         // the tag of the stream. After a failure it ends in a front of these lines.
@@ -223,12 +224,12 @@ impl<'a> Conversation<'a> {
     {
         match side {
             Side::Even => {
-                self.even.end();
-                self.even.close(cause, out)
+                self.even.mark_ended();
+                self.even.write_close(cause, out)
             }
             Side::Odd => {
-                self.odd.end();
-                self.odd.close(cause, out)
+                self.odd.mark_ended();
+                self.odd.write_close(cause, out)
             }
         }
     }

@@ -5,11 +5,11 @@ ghost use Rattle.std.specs.Io.KnownBytes.{Keeps};
 ghost use Rattle.std.specs.Vec.{vec_len};
 ghost use Rattle.tcp_flow.specs.Flow.{Event, Opens, Begins, Delivers, Closes, OfCapture, ComesFrom, Passes, HasFault};
 ghost use Rattle.giop_stream.specs.Rules.{most_open};
-ghost use Rattle.giop_stream.specs.EngineHolds.{AreOf};
-ghost use Rattle.giop_conversation.specs.Failing.{FailsOnce};
+ghost use Rattle.giop_stream.specs.EngineHolds.{IsRequestTableOf};
+ghost use Rattle.giop_conversation.specs.Failing.{FailsIfPutFailed};
 ghost use Rattle.giop_conversation.specs.Seen.{IsSeen};
 ghost use Rattle.giop_conversation.specs.Follows.{Follows};
-ghost use Rattle.giop_conversation.specs.Captured.{Setup, setup, cuts, sum_within as spec_sum_within};
+ghost use Rattle.giop_conversation.specs.Captured.{Setup, setup, cuts_stream, saturating_sum as spec_saturating_sum};
 ghost use Rattle.giop_conversation.specs.DumpHeld.{HasWrittenFront, HasFinished, HasFinishedFront};
 ghost use Rattle.giop_conversation.specs.DumpWritten.{IsWritten};
 ghost use Rattle.giop_conversation.specs.Followed.{reader_faulted, reader_lacking};
@@ -28,16 +28,16 @@ use tcp_segment::Flow;
 use tcp_waiting::Arrival;
 
 /// The sum of two numbers, or the greatest number of 64 bits if the sum is greater.
-fn sum_within(a: u64, b: u64) -> u64
-    ensures { result ≡ spec_sum_within a b }
+fn saturating_sum(a: u64, b: u64) -> u64
+    ensures { result ≡ spec_saturating_sum a b }
 {
     a.saturating_add(b)
 }
 
 /// Whether a capture is cut after a stream closes: it was cut before, or the stream closes because octets are missing or
 /// because there was no room to wait for them.
-fn is_cut(before: bool, cause: CloseCause) -> bool
-    ensures { result ≡ (before || cuts cause) }
+fn is_cut_after(before: bool, cause: CloseCause) -> bool
+    ensures { result ≡ (before || cuts_stream cause) }
 {
     match cause {
         CloseCause::Gap | CloseCause::Room => true,
@@ -79,7 +79,7 @@ impl<'a, O: Out + Drop> Conversations<'a, O> {
         limits: Limits,
         out: O,
     ) -> Result<Conversations<'a, O>, MemoryError>
-        requires of { AreOf catalogue.now requests.now }
+        requires of { IsRequestTableOf catalogue.now requests.now }
         requires range { (1 ≤ limits.messages) × (limits.messages ≤ most_open) }
         ensures follows { IfOk result (λ c. Follows c []) }
         ensures slots { IfOk result (λ c. vec_len c.slots ≡ limits.connections) }
@@ -128,7 +128,7 @@ impl<'a, O: Out + Drop> Conversations<'a, O> {
 
     /// Gives an id to a flow. Nothing of the flow has come yet. Calls that were kept of the flow that had the id before are
     /// forgotten.
-    pub fn on_open(&mut self, flow: u32, endpoints: Flow)
+    pub fn on_new_flow(&mut self, flow: u32, endpoints: Flow)
         ensures follows { (events : List Event) → Follows self.old events →
             Follows self.new (events ++ Opens flow endpoints ∷ []) }
         ensures kept { self.new.out ≡ self.old.out }
@@ -144,9 +144,9 @@ impl<'a, O: Out + Drop> Conversations<'a, O> {
 
     /// The number that the next stream gets.
     fn next_number(&self) -> u64
-        ensures { result ≡ spec_sum_within self.now.first self.now.totals.streams }
+        ensures { result ≡ spec_saturating_sum self.now.first self.now.totals.streams }
     {
-        sum_within(self.first, self.totals.streams)
+        saturating_sum(self.first, self.totals.streams)
     }
 
     /// Begins a stream of a flow. Its number is one more than the number of the stream that began before it.
@@ -159,7 +159,7 @@ impl<'a, O: Out + Drop> Conversations<'a, O> {
             MatchResult result (λ _. IsWritten S written (events ++ Begins flow start ∷ [])
             self.new)
             (λ _. HasWrittenFront S written (events ++ Begins flow start ∷ []) self.new.out) }
-        ensures fails { FailsOnce result self.new.out }
+        ensures fails { FailsIfPutFailed result self.new.out }
         // If a put has failed before, nothing is written.
         ensures still { 0 < self.old.out.failures → self.new.out ≡ self.old.out }
     {
@@ -167,7 +167,7 @@ impl<'a, O: Out + Drop> Conversations<'a, O> {
             return Err(OutFault);
         }
         let number = self.next_number();
-        self.totals.streams = sum_within(self.totals.streams, 1);
+        self.totals.streams = saturating_sum(self.totals.streams, 1);
         match self.slots.get_mut(flow as usize / 2) {
             Some(slot) => {
                 let time = self.arrival.time;
@@ -190,7 +190,7 @@ impl<'a, O: Out + Drop> Conversations<'a, O> {
             self.new)
             (λ _. HasWrittenFront S written (events ++ Delivers flow octets.now ∷ [])
             self.new.out) }
-        ensures fails { FailsOnce result self.new.out }
+        ensures fails { FailsIfPutFailed result self.new.out }
         // If a put has failed before, nothing is written.
         ensures still { 0 < self.old.out.failures → self.new.out ≡ self.old.out }
     {
@@ -198,7 +198,7 @@ impl<'a, O: Out + Drop> Conversations<'a, O> {
             return Err(OutFault);
         }
         match self.slots.get_mut(flow as usize / 2) {
-            Some(slot) => slot.read(side_of(flow), octets, self.arrival, &mut self.out),
+            Some(slot) => slot.read(side_of(flow), octets, &self.arrival, &mut self.out),
             // The flow has no slot, so nothing is known of its stream.
             None => Err(self.out.refuse()),
         }
@@ -206,11 +206,11 @@ impl<'a, O: Out + Drop> Conversations<'a, O> {
 
     /// How many octets are missing until the end of the message that a flow's stream is in, if the message's header is
     /// complete. It is 0 between two messages.
-    pub fn lacks(&mut self, flow: u32) -> Result<Option<u32>, OutFault>
+    pub fn message_lacks(&mut self, flow: u32) -> Result<Option<u32>, OutFault>
         ensures value { (events : List Event) → Follows self.old events →
             IfOk result (λ count. count ≡ reader_lacking events flow) }
         ensures kept { OnOk result (self.new ≡ self.old) }
-        ensures fails { FailsOnce result self.new.out }
+        ensures fails { FailsIfPutFailed result self.new.out }
         // If a put has failed before, nothing is written.
         ensures still { 0 < self.old.out.failures → self.new.out ≡ self.old.out }
     {
@@ -234,7 +234,7 @@ impl<'a, O: Out + Drop> Conversations<'a, O> {
             MatchResult result (λ _. IsWritten S written (events ++ Closes flow cause ∷ [])
             self.new)
             (λ _. HasWrittenFront S written (events ++ Closes flow cause ∷ []) self.new.out) }
-        ensures fails { FailsOnce result self.new.out }
+        ensures fails { FailsIfPutFailed result self.new.out }
         // If a put has failed before, nothing is written.
         ensures still { 0 < self.old.out.failures → self.new.out ≡ self.old.out }
     {
@@ -244,9 +244,9 @@ impl<'a, O: Out + Drop> Conversations<'a, O> {
         match self.slots.get_mut(flow as usize / 2) {
             Some(slot) => match slot.close(side_of(flow), cause, &mut self.out) {
                 Ok(totals) => {
-                    self.totals.messages = sum_within(self.totals.messages, totals.messages);
-                    self.totals.faults = sum_within(self.totals.faults, totals.faults);
-                    self.cut = is_cut(self.cut, cause);
+                    self.totals.messages = saturating_sum(self.totals.messages, totals.messages);
+                    self.totals.faults = saturating_sum(self.totals.faults, totals.faults);
+                    self.cut = is_cut_after(self.cut, cause);
                     Ok(())
                 }
                 Err(fault) => Err(fault),
@@ -256,7 +256,7 @@ impl<'a, O: Out + Drop> Conversations<'a, O> {
     }
 
     /// Counts a payload that was looked through, and in which no stream begins.
-    pub fn on_pass(&mut self)
+    pub fn on_looked_through(&mut self)
         ensures follows { (events : List Event) (octets : List ℕ) → Follows self.old events →
             Follows self.new (events ++ OfCapture (Passes octets) ∷ []) }
         ensures kept { self.new.out ≡ self.old.out }
@@ -264,11 +264,11 @@ impl<'a, O: Out + Drop> Conversations<'a, O> {
             IsWritten S written events self.old →
             IsWritten S written (events ++ OfCapture (Passes octets) ∷ []) self.new }
     {
-        self.totals.others = sum_within(self.totals.others, 1);
+        self.totals.others = saturating_sum(self.totals.others, 1);
     }
 
     /// Writes that the capture itself has a fault, at its octet of this number, from 1. The capture ends there.
-    pub fn fault(&mut self, word: &str, at: u64) -> Result<(), OutFault>
+    pub fn write_capture_fault(&mut self, word: &str, at: u64) -> Result<(), OutFault>
         ensures follows { (events : List Event) → Follows self.old events →
             OnOk result (Follows self.new events) }
         // After this the text below is the text of all events; after a failure, a front of it.
@@ -278,7 +278,7 @@ impl<'a, O: Out + Drop> Conversations<'a, O> {
             (events ++ OfCapture (HasFault word.now at) ∷ []) self.new)
             (λ _. HasWrittenFront S written (events ++ OfCapture (HasFault word.now at) ∷ [])
             self.new.out) }
-        ensures fails { FailsOnce result self.new.out }
+        ensures fails { FailsIfPutFailed result self.new.out }
         // If a put has failed before, nothing is written.
         ensures still { 0 < self.old.out.failures → self.new.out ≡ self.old.out }
     {
@@ -293,7 +293,7 @@ impl<'a, O: Out + Drop> Conversations<'a, O> {
     /// Writes the last line, with the number of packets and octets of the capture. Returns whether a fault was counted, or
     /// a stream was cut by a gap or for lack of room, or the capture has a fault.
     pub fn finish(&mut self, packets: u64, octets: u64) -> Result<bool, OutFault>
-        ensures fails { FailsOnce result self.new.out }
+        ensures fails { FailsIfPutFailed result self.new.out }
         // If a put has failed before, nothing is written.
         ensures still { 0 < self.old.out.failures → self.new.out ≡ self.old.out }
         ensures value { IfOk result (λ is_faulted.
@@ -317,18 +317,18 @@ impl<'a, O: Out + Drop> Conversations<'a, O> {
 
     /// Whether a call has failed without a put: octets came in a flow without a slot, or more octets would have been
     /// written than can be counted.
-    pub fn is_full(&self) -> bool
-        ensures { result ≡ self.now.out.full }
+    pub fn has_refused(&self) -> bool
+        ensures { result ≡ self.now.out.refused }
     {
-        self.out.is_full()
+        self.out.has_refused()
     }
 
     /// Gives the out below back.
     pub fn into_out(self) -> O
         ensures written { (O.log result).written ≡ self.entry.out.whole }
-        // If a put or a flush has failed here, one has failed in the out below, unless this is full.
+        // If a put or a flush has failed here, one has failed in the out below, unless this has refused.
         ensures cause { 0 < self.entry.out.failures →
-            (0 < (O.log result).failures) ⊎ (self.entry.out.full ≡ true) }
+            (0 < (O.log result).failures) ⊎ (self.entry.out.refused ≡ true) }
     {
         self.out.into_out()
     }

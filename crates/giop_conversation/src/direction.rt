@@ -11,15 +11,15 @@ ghost use Rattle.giop_stream.specs.Rules.{most_open};
 ghost use Rattle.giop_stream.specs.Framing.{cut, fault_of, lacking};
 ghost use Rattle.giop_stream.specs.HeaderEndsOfStream.{header_ends_from};
 ghost use Rattle.giop_stream.specs.Stream.{closing, final};
-ghost use Rattle.giop_stream.specs.EngineHolds.{AreOf, HoldsBy, added, rules_with, status_of};
+ghost use Rattle.giop_stream.specs.EngineHolds.{IsRequestTableOf, HoldsBy, added, rules_with, status_of};
 ghost use Rattle.giop_conversation.specs.Tags.{with_tags, stream_tag as spec_stream_tag};
 ghost use Rattle.giop_conversation.specs.Lines.{closed_line as spec_closed_line};
 ghost use Rattle.giop_conversation.specs.TaggedState.{tagging_log, IsReady, WroteTaggedFront};
 ghost use Rattle.giop_message.specs.DueOctets.{TakesFront};
 ghost use Rattle.giop_stream.specs.DueOctets.{begun_in};
-ghost use Rattle.giop_conversation.specs.Exchanges.{answer_of, notified, is_waiting};
-ghost use Rattle.giop_conversation.specs.Stamped.{stamped, exchanged, taken, time_due, answers_due, raises_due, begin_lines};
-ghost use Rattle.giop_conversation.specs.StreamReads.{AgreeWith, IsUndueAfter, IsSetAlike, HasCome, HasStood, WritesTagged, reading_in};
+ghost use Rattle.giop_conversation.specs.Exchanges.{answer_of, notified, is_reply_line_due};
+ghost use Rattle.giop_conversation.specs.Stamped.{stamped, after_octets, reply_forgotten, due_time_line, due_answers_line, due_raises_line, begin_lines};
+ghost use Rattle.giop_conversation.specs.StreamReads.{AgreeWith, NoLineDueAfter, HasSameSetup, ReadAndWroteThrough, ReadAndWroteBelow, WritesTagged, exchange_for_reading};
 ghost use Rattle.giop_conversation.specs.Failing.{FailsByPut};
 ghost use Rattle.giop_conversation.specs.Directions.{HasRead, fault_place};
 
@@ -27,6 +27,7 @@ use crate::exchange::{Answering, Exchange, Raising, answers_are_known};
 use crate::lines::{Opening, answers_line, closed_line, raises_line, stream_line};
 use crate::tag::{Tag, stream_tag};
 use crate::tagged::Tagged;
+use giop_message::Correspondent;
 use giop_print::{Out, OutFault};
 use giop_sig::{Catalogue, Requests};
 use giop_stream::{Engine, Fed, NewError, Status, Totals, answers_agree, answers_go_on};
@@ -77,7 +78,7 @@ impl<'a> Direction<'a> {
         requests: &'a Requests,
         messages: u32,
     ) -> Result<Direction<'a>, NewError>
-        requires of { AreOf catalogue.now requests.now }
+        requires of { IsRequestTableOf catalogue.now requests.now }
         requires range { (1 ≤ messages) × (messages ≤ most_open) }
         ensures read { IfOk result (λ d. HasRead d.engine []) }
         ensures holds { (a : Answers) → IfOk result (λ d. HoldsBy d.engine a []) }
@@ -106,7 +107,7 @@ impl<'a> Direction<'a> {
     }
 
     /// Notes the flow that this direction has: who sends to whom.
-    pub fn open(&mut self, flow: Flow)
+    pub fn set_flow(&mut self, flow: Flow)
         ensures { self.new ≡ record self.old { flow = Some flow } }
     {
         self.flow = Some(flow);
@@ -122,7 +123,7 @@ impl<'a> Direction<'a> {
         ensures read { HasRead self.new.engine [] }
         // After this the engine has read nothing, by any answers to the ids of its messages. Its types and its limit stay.
         ensures holds { (a : Answers) → HoldsBy self.new.engine a [] }
-        ensures same { IsSetAlike self.new.engine self.old.engine }
+        ensures same { HasSameSetup self.new.engine self.old.engine }
         ensures stream { self.new.stream ≡ stream }
         ensures live { self.new.is_live ≡ true }
         ensures flow { self.new.flow ≡ self.old.flow }
@@ -138,12 +139,12 @@ impl<'a> Direction<'a> {
         self.live = true;
         self.tag = stream_tag(stream);
         out.set_tag(self.tag.copied());
-        write_begin(self.flow, opening, out)
+        write_stream_line(self.flow, opening, out)
     }
 
     /// Reads a piece of the stream up to the first octet after which a line of the conversation is due, and writes the
     /// lines of the stream that these octets complete.
-    fn feed<O: Out>(
+    fn feed_until_due<O: Out>(
         &mut self,
         exchange: &mut Exchange<'a>,
         piece: &[u8],
@@ -169,13 +170,13 @@ impl<'a> Direction<'a> {
         // at most after the last of them.
         ensures text { (a : Answers) (p : List ℕ) → HoldsBy self.old.engine a p →
             AgreeWith self.old.engine a exchange.old p piece.now →
-            is_waiting exchange.old ≡ false →
-            TakesFront (λ fed. fed.count) (IsUndueAfter self.old.engine a exchange.old p)
+            is_reply_line_due exchange.old ≡ false →
+            TakesFront (λ fed. fed.count) (NoLineDueAfter self.old.engine a exchange.old p)
             (λ octets. Writes result (tagging_log out.old) (tagging_log out.new)
             (added (rules_with self.old.engine a) p octets)) result piece.now }
         ensures some { 0 < length piece.now → IfOk result (λ fed. 0 < fed.count) }
         ensures within { IfOk result (λ fed. fed.count ≤ length piece.now) }
-        ensures same { IsSetAlike self.new.engine self.old.engine }
+        ensures same { HasSameSetup self.new.engine self.old.engine }
         ensures fails { FailsByPut result out.old out.new }
         ensures stream { self.new.stream ≡ self.old.stream }
         ensures live { self.new.is_live ≡ self.old.is_live }
@@ -194,11 +195,11 @@ impl<'a> Direction<'a> {
 
     /// Reads some of the next octets of the stream, the first ones, and writes the lines that are due after each of them.
     /// Returns how many it has read, and whether the stream is running after them.
-    fn read_piece<O: Out>(
+    fn read_until_due<O: Out>(
         &mut self,
         exchange: &mut Exchange<'a>,
         octets: &[u8],
-        arrival: Arrival,
+        arrival: &Arrival,
         out: &mut Tagged<O>,
     ) -> Result<(usize, Status), OutFault>
         requires known { AreKnown self.old.engine.table (answer_of exchange.old) }
@@ -213,22 +214,22 @@ impl<'a> Direction<'a> {
         // front of the lines of all octets is written.
         ensures text { (a : Answers) (p : List ℕ) → HoldsBy self.old.engine a p →
             AgreeWith self.old.engine a exchange.old p octets.now →
-            exchange.old.table ≡ self.old.engine.table → exchange.old.arrival ≡ arrival →
+            exchange.old.table ≡ self.old.engine.table → exchange.old.arrival ≡ arrival.now →
             exchange.old.answered ≡ None → exchange.old.raised ≡ None →
             MatchResult result
-            (λ r. HasCome self.new.engine a (p ++ take r.0 octets.now) out.old out.new
+            (λ r. ReadAndWroteThrough self.new.engine a (p ++ take r.0 octets.now) out.old out.new
             (stamped (rules_with self.old.engine a) exchange.old p (take r.0 octets.now))
             exchange.new
-            (exchanged (rules_with self.old.engine a) exchange.old p (take r.0 octets.now)))
+            (after_octets (rules_with self.old.engine a) exchange.old p (take r.0 octets.now)))
             (λ _. WroteFront (tagging_log out.old) (tagging_log out.new)
             (stamped (rules_with self.old.engine a) exchange.old p octets.now)) }
-        ensures same { IsSetAlike self.new.engine self.old.engine }
+        ensures same { HasSameSetup self.new.engine self.old.engine }
         ensures fails { FailsByPut result out.old out.new }
         ensures stream { self.new.stream ≡ self.old.stream }
         ensures live { self.new.is_live ≡ self.old.is_live }
         ensures flow { self.new.flow ≡ self.old.flow }
     {
-        let fed = self.feed(exchange, octets, out)?;
+        let fed = self.feed_until_due(exchange, octets, out)?;
         write_due(exchange, fed.begun, arrival, out)?;
         Ok((fed.count, fed.status))
     }
@@ -239,7 +240,7 @@ impl<'a> Direction<'a> {
         &mut self,
         exchange: &mut Exchange<'a>,
         octets: &[u8],
-        arrival: Arrival,
+        arrival: &Arrival,
         out: &mut Tagged<O>,
     ) -> Result<Option<u64>, OutFault>
         // The stream has grown by the octets.
@@ -252,15 +253,17 @@ impl<'a> Direction<'a> {
         // those lines.
         ensures text { (a : Answers) (p w : List ℕ) → HoldsBy self.old.engine a p →
             IsReady out.old w →
-            (let calls = reading_in self.old.engine self.old.stream arrival exchange.old in
+            (let calls = exchange_for_reading self.old.engine self.old.stream arrival.now
+            exchange.old in
             let lines = stamped (rules_with self.old.engine a) calls p octets.now in
             let tag = spec_stream_tag self.old.stream in
             AgreeWith self.old.engine a calls p octets.now →
             MatchResult result
-            (λ _. HasStood self.new.engine a (p ++ octets.now) out.new (w ++ with_tags tag lines)
-            exchange.new (exchanged (rules_with self.old.engine a) calls p octets.now))
+            (λ _. ReadAndWroteBelow self.new.engine a (p ++ octets.now) out.new
+            (w ++ with_tags tag lines)
+            exchange.new (after_octets (rules_with self.old.engine a) calls p octets.now))
             (λ _. WroteTaggedFront out.new w tag lines)) }
-        ensures same { IsSetAlike self.new.engine self.old.engine }
+        ensures same { HasSameSetup self.new.engine self.old.engine }
         ensures fails { FailsByPut result out.old out.new }
         ensures stream { self.new.stream ≡ self.old.stream }
         ensures live { self.new.is_live ≡ self.old.is_live }
@@ -269,11 +272,11 @@ impl<'a> Direction<'a> {
         answers_are_known();
         // The exchange gets the catalogue of the engine, so each operation that is answered is in the engine's catalogue.
         exchange.set_catalogue(self.catalogue);
-        exchange.note_packet(self.stream, arrival);
+        exchange.note_packet(self.stream, *arrival);
         out.set_tag(self.tag.copied());
         let mut at = 0;
         loop {
-            let (size, status) = self.read_piece(exchange, &octets[at..], arrival, out)?;
+            let (size, status) = self.read_until_due(exchange, &octets[at..], arrival, out)?;
             at += size;
             if at >= octets.len() {
                 return Ok(self.fault_place(status));
@@ -301,14 +304,18 @@ impl<'a> Direction<'a> {
     }
 
     /// Notes that the stream lives no more.
-    pub fn end(&mut self)
+    pub fn mark_ended(&mut self)
         ensures { self.new ≡ record self.old { is_live = false } }
     {
         self.live = false;
     }
 
     /// Writes why the stream closes, and its closing. Returns the totals of the stream.
-    pub fn close<O: Out>(&self, cause: CloseCause, out: &mut Tagged<O>) -> Result<Totals, OutFault>
+    pub fn write_close<O: Out>(
+        &self,
+        cause: CloseCause,
+        out: &mut Tagged<O>,
+    ) -> Result<Totals, OutFault>
         ensures fails { FailsByPut result out.old out.new }
         // After this the text below ends in the line that says why the stream closes, and then the closing, each line with
         // the tag of the stream. After a failure it ends in a front of these lines.
@@ -329,7 +336,11 @@ impl<'a> Direction<'a> {
 }
 
 /// Writes the line with which a stream begins, if it is known who sends to whom.
-fn write_begin<O: Out>(flow: Option<Flow>, opening: Opening, out: &mut O) -> Result<(), OutFault>
+fn write_stream_line<O: Out>(
+    flow: Option<Flow>,
+    opening: Opening,
+    out: &mut O,
+) -> Result<(), OutFault>
     ensures { Writes result (O.log out.old) (O.log out.new) (begin_lines flow opening) }
 {
     match flow {
@@ -343,11 +354,11 @@ fn write_begin<O: Out>(flow: Option<Flow>, opening: Opening, out: &mut O) -> Res
 fn write_time<O: Out>(
     exchange: &mut Exchange<'_>,
     begun: Option<u64>,
-    arrival: Arrival,
+    arrival: &Arrival,
     out: &mut O,
 ) -> Result<(), OutFault>
     ensures kept { exchange.new ≡ exchange.old }
-    ensures text { Writes result (O.log out.old) (O.log out.new) (time_due begun arrival) }
+    ensures text { Writes result (O.log out.old) (O.log out.new) (due_time_line begun arrival.now) }
 {
     match begun {
         Some(message) => exchange.write_time(message, arrival, out),
@@ -361,7 +372,7 @@ fn write_answered<O: Out>(
     time: Option<u128>,
     out: &mut O,
 ) -> Result<(), OutFault>
-    ensures { Writes result (O.log out.old) (O.log out.new) (answers_due
+    ensures { Writes result (O.log out.old) (O.log out.new) (due_answers_line
         (option_map (λ a. record { message = a.now.message; call = a.now.call }) answered.entry)
         time) }
 {
@@ -373,7 +384,7 @@ fn write_answered<O: Out>(
 
 /// Writes which exception a Reply raises, if it raises one.
 fn write_raised<O: Out>(raised: Option<&Raising>, out: &mut O) -> Result<(), OutFault>
-    ensures { Writes result (O.log out.old) (O.log out.new) (raises_due
+    ensures { Writes result (O.log out.old) (O.log out.new) (due_raises_line
         (option_map (λ r. record { message = r.now.message; name = r.now.name.items })
         raised.entry)) }
 {
@@ -390,7 +401,7 @@ fn write_reply<O: Out>(
     out: &mut O,
 ) -> Result<(), OutFault>
     ensures { Writes result (O.log out.old) (O.log out.new)
-        (answers_due exchange.now.answered time ++ raises_due exchange.now.raised) }
+        (due_answers_line exchange.now.answered time ++ due_raises_line exchange.now.raised) }
 {
     match write_answered(exchange.answering(), time, out) {
         Ok(()) => write_raised(exchange.raising(), out),
@@ -399,18 +410,18 @@ fn write_reply<O: Out>(
 }
 
 /// Writes when a message began, if one did, then which call a Reply answers, and then which exception a Reply raises.
-fn write_told<O: Out>(
+fn write_all_due<O: Out>(
     exchange: &mut Exchange<'_>,
     begun: Option<u64>,
-    arrival: Arrival,
+    arrival: &Arrival,
     out: &mut Tagged<O>,
 ) -> Result<(), OutFault>
     ensures kept { exchange.new ≡ exchange.old }
     ensures fails { FailsByPut result out.old out.new }
     ensures text { Writes result (tagging_log out.old) (tagging_log out.new)
-        (time_due begun arrival
-        ++ (answers_due exchange.old.answered arrival.time
-        ++ raises_due exchange.old.raised)) }
+        (due_time_line begun arrival.now
+        ++ (due_answers_line exchange.old.answered arrival.now.time
+        ++ due_raises_line exchange.old.raised)) }
 {
     match write_time(exchange, begun, arrival, out) {
         Ok(()) => write_reply(exchange, arrival.time, out),
@@ -423,17 +434,20 @@ fn write_told<O: Out>(
 fn write_due<O: Out>(
     exchange: &mut Exchange,
     begun: Option<u64>,
-    arrival: Arrival,
+    arrival: &Arrival,
     out: &mut Tagged<O>,
 ) -> Result<(), OutFault>
-    ensures taken { exchange.new ≡ taken exchange.old }
+    ensures taken { exchange.new ≡ reply_forgotten exchange.old }
     ensures fails { FailsByPut result out.old out.new }
     ensures text { Writes result (tagging_log out.old) (tagging_log out.new)
-        (time_due begun arrival
-        ++ (answers_due exchange.old.answered arrival.time
-        ++ raises_due exchange.old.raised)) }
+        (due_time_line begun arrival.now
+        ++ (due_answers_line exchange.old.answered arrival.now.time
+        ++ due_raises_line exchange.old.raised)) }
 {
-    let written = write_told(exchange, begun, arrival, out);
+    if !exchange.is_due() {
+        return write_time(exchange, begun, arrival, out);
+    }
+    let written = write_all_due(exchange, begun, arrival, out);
     exchange.forget_reply();
     written
 }

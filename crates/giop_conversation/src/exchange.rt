@@ -6,15 +6,15 @@ ghost use Rattle.giop_print.specs.Output.{Writes};
 ghost use Rattle.giop_sig.specs.Table.{Table};
 ghost use Rattle.giop_message.specs.MessageState.{AreKnown};
 ghost use Rattle.giop_conversation.specs.Lines.{time_line};
-ghost use Rattle.giop_conversation.specs.Exchanges.{Exchanged, kept_name, answer_of, kept_exception};
+ghost use Rattle.giop_conversation.specs.Exchanges.{ExchangeView, kept_name, answer_of, kept_exception};
 
 use crate::both_calls::BothCalls;
 use crate::kept_second::KeptSecond;
-use crate::lines::time_line_by;
+use crate::lines::time_line_by_kept_second;
 use arrayvec::ArrayVec;
 use giop_calls::{Call, NAME_ROOM};
 use giop_message::Correspondent;
-use giop_print::{Out, OutFault};
+use giop_print::{Line, Out, OutFault};
 use giop_sig::{Catalogue, OpId};
 use std::alloc::{AllocError, Global};
 use std::marker::Model;
@@ -47,17 +47,24 @@ pub struct Exchange<'a> {
     stream: u64,
     arrival: Arrival,
     replied: u64,
-    answered: Option<Answering>,
-    raised: Option<Raising>,
+    // The last Reply that answers a call, and whether its line is still to be written.
+    answering: Option<Answering>,
+    is_answering: bool,
+    // The last Reply that raises an exception, and whether its line is still to be written.
+    raising: Option<Raising>,
+    is_raising: bool,
     // The second of the last time that was written; at first the first second of 1970.
     second: KeptSecond,
+    // Room for the line of a time. It is kept since room must be filled when it is made.
+    line: Line,
 }
 
 impl<'a> Model for Exchange<'a> {
-    ghost use Rattle.giop_conversation.specs.Exchanges.{Exchanged};
+    ghost use Rattle.giop_conversation.specs.Exchanges.{ExchangeView};
 
-    ghost Value = { Exchanged };
+    ghost Value = { ExchangeView };
 
+    ghost use Rattle.std.specs.Prelude.{cond, None};
     ghost use Rattle.std.specs.Option.{option_map};
 
     ghost view = { λ e. record {
@@ -67,8 +74,10 @@ impl<'a> Model for Exchange<'a> {
       stream = e.stream;
       arrival = e.arrival;
       replied = e.replied;
-      answered = option_map (λ a. record { message = a.message; call = a.call }) e.answered;
-      raised = option_map (λ r. record { message = r.message; name = r.name.items }) e.raised;
+      answered = cond e.is_answering
+          (option_map (λ a. record { message = a.message; call = a.call }) e.answering) None;
+      raised = cond e.is_raising
+          (option_map (λ r. record { message = r.message; name = r.name.items }) e.raising) None;
     } };
 }
 
@@ -99,9 +108,12 @@ impl<'a> Exchange<'a> {
                 packet: 0,
             },
             replied: 0,
-            answered: None,
-            raised: None,
+            answering: None,
+            is_answering: false,
+            raising: None,
+            is_raising: false,
             second: KeptSecond::new(),
+            line: Line::new(),
         })
     }
 
@@ -113,10 +125,10 @@ impl<'a> Exchange<'a> {
     }
 
     /// Turns to the other direction: from now on a stream of that is read.
-    pub fn turn(&mut self)
+    pub fn swap_directions(&mut self)
         ensures { self.new ≡ record self.old { own = self.old.opposite; opposite = self.old.own } }
     {
-        self.calls.turn();
+        self.calls.swap_directions();
     }
 
     /// Notes the number of the stream that is read, and the packet in which its next octets came.
@@ -148,7 +160,11 @@ impl<'a> Exchange<'a> {
         ensures { option_map (λ a. record { message = a.now.message; call = a.now.call }) result
             ≡ self.now.answered }
     {
-        self.answered.as_ref()
+        if self.is_answering {
+            self.answering.as_ref()
+        } else {
+            None
+        }
     }
 
     /// The last exception that a Reply raises, if there is one and `forget_reply` wasn't called since.
@@ -157,19 +173,19 @@ impl<'a> Exchange<'a> {
             (λ r. record { message = r.now.message; name = r.now.name.items }) result
             ≡ self.now.raised }
     {
-        self.raised.as_ref()
+        if self.is_raising {
+            self.raising.as_ref()
+        } else {
+            None
+        }
     }
 
     /// Forgets which call the last Reply answers, and which exception it raises.
     pub fn forget_reply(&mut self)
         ensures { self.new ≡ record self.old { answered = None; raised = None } }
     {
-        if self.answered.is_some() {
-            self.answered = None;
-        }
-        if self.raised.is_some() {
-            self.raised = None;
-        }
+        self.is_answering = false;
+        self.is_raising = false;
     }
 
     /// Writes the line that says when the header of the message of this number was complete, in the stream that is read.
@@ -177,20 +193,21 @@ impl<'a> Exchange<'a> {
     pub(crate) fn write_time<O: Out>(
         &mut self,
         message: u64,
-        arrival: Arrival,
+        arrival: &Arrival,
         out: &mut O,
     ) -> Result<(), OutFault>
         ensures kept { self.new ≡ self.old }
-        ensures text { Writes result (O.log out.old) (O.log out.new) (time_line message arrival) }
+        ensures text { Writes result (O.log out.old) (O.log out.new)
+            (time_line message arrival.now) }
     {
-        time_line_by(&mut self.second, out, message, arrival)
+        time_line_by_kept_second(&mut self.second, &mut self.line, out, message, arrival)
     }
 
     /// Forgets the calls of the stream that is read. Their memory is kept.
-    pub fn forget(&mut self)
+    pub fn forget_own_calls(&mut self)
         ensures { self.new ≡ record self.old { own = record self.old.own { entries = [] } } }
     {
-        self.calls.clear();
+        self.calls.forget_all_own();
     }
 }
 
@@ -228,7 +245,7 @@ fn kept_exception(number: u64, name: &[u8]) -> Option<Raising>
 }
 
 /// The number of an operation.
-fn number_of(operation: Option<OpId>) -> Option<u32>
+fn operation_number(operation: Option<OpId>) -> Option<u32>
     ensures { result ≡ option_map (λ o. o.0) operation }
 {
     Some(operation?.0)
@@ -236,10 +253,10 @@ fn number_of(operation: Option<OpId>) -> Option<u32>
 
 impl<'a> Correspondent for Exchange<'a> {
     ghost use Rattle.std.specs.Prelude.{true};
-    ghost use Rattle.giop_conversation.specs.Exchanges.{Exchanged, answer_of, notified, is_waiting};
+    ghost use Rattle.giop_conversation.specs.Exchanges.{ExchangeView, answer_of, notified, is_reply_line_due};
     ghost use Rattle.giop_conversation.specs.ExchangeLaws.{known_still};
 
-    ghost State = { Exchanged };
+    ghost State = { ExchangeView };
 
     ghost state = { λ e. e };
 
@@ -247,12 +264,12 @@ impl<'a> Correspondent for Exchange<'a> {
 
     ghost notified = { notified };
 
-    ghost due = { is_waiting };
+    ghost due = { is_reply_line_due };
 
     ghost awaits_messages = { true };
 
     fn operation(&self, id: u32) -> Option<OpId> {
-        let call = self.calls.find(id)?;
+        let call = self.calls.find_opposite(id)?;
         let operation = OpId(call.operation?);
         if self.catalogue.has_operation(operation) {
             Some(operation)
@@ -275,35 +292,39 @@ impl<'a> Correspondent for Exchange<'a> {
                 kept.try_extend_from_slice(name).unwrap();
                 let call = Call {
                     name: kept,
-                    operation: number_of(operation),
+                    operation: operation_number(operation),
                     stream: self.stream,
                     message: number,
                     time: self.arrival.time,
                 };
-                self.calls.add(id, call);
+                self.calls.add_own(id, call);
             }
-            None => self.calls.forget(id),
+            None => self.calls.forget_own(id),
         }
     }
 
     fn on_answer(&mut self, number: u64, id: u32) {
         self.replied = number;
-        self.answered = match self.calls.take(id) {
-            Some(call) => Some(Answering {
-                message: number,
-                call,
-            }),
-            None => None,
-        };
+        match self.calls.take_opposite(id) {
+            Some(call) => {
+                self.answering = Some(Answering {
+                    message: number,
+                    call,
+                });
+                self.is_answering = true;
+            }
+            None => self.is_answering = false,
+        }
     }
 
     fn on_exception(&mut self, number: u64, name: &[u8]) {
-        self.raised = kept_exception(number, name);
+        self.raising = kept_exception(number, name);
+        self.is_raising = true;
     }
 
     /// Whether a Reply waits for its lines to be written: it answers a call, or raises an exception.
     fn is_due(&self) -> bool {
-        self.answered.is_some() || self.raised.is_some()
+        self.answering().is_some() || self.raising().is_some()
     }
 
     fn awaits_messages(&self) -> bool {
@@ -315,5 +336,5 @@ impl<'a> Correspondent for Exchange<'a> {
 
 /// Each operation that an exchange answers is an operation of its catalogue.
 pub fn answers_are_known()
-    ensures { (s : Exchanged) → AreKnown s.table (answer_of s) }
+    ensures { (s : ExchangeView) → AreKnown s.table (answer_of s) }
 {}

@@ -4,10 +4,10 @@ ghost use Rattle.std.specs.Prelude.{◌≡◌, ◌<◌, ◌/◌, ◌++◌, List,
 ghost use Rattle.std.specs.List.{AllByRecursion as Each};
 ghost use Rattle.giop_print.specs.Output.{Wrote, WroteFront};
 ghost use Rattle.tcp_flow.specs.Flow.{Event, flow_of};
-ghost use Rattle.giop_conversation.specs.Captured.{Setup, Dump, Leads, start, number_in, without_answers};
+ghost use Rattle.giop_conversation.specs.Captured.{Setup, Dump, Leads, start, next_stream_number, without_answers};
 ghost use Rattle.giop_conversation.specs.StreamTexts.{no_history, history, AreGapless, AreWhole, IsUnique, ShowsStreams};
 ghost use Rattle.giop_conversation.specs.Tags.{with_tags, without_tags};
-ghost use Rattle.giop_conversation.specs.TaggedText.{is_due};
+ghost use Rattle.giop_conversation.specs.TaggedText.{is_tag_due};
 ghost use Rattle.giop_conversation.specs.TaggedState.{Tagging, tagging_log, IsReady, WroteTaggedFront};
 
 use giop_stream::answers_agree;
@@ -22,7 +22,7 @@ pub fn lines_stand_below()
           tag = [];
           due = 0;
           since = 0;
-          full = false;
+          refused = false;
           puts = 0;
           failures = 0;
         }) w }
@@ -30,7 +30,7 @@ pub fn lines_stand_below()
         IsReady (record t { tag = tag; due = length tag; since = 0 }) w }
     // If lines are written, they stand in the text below, each with the tag in front.
     ensures writes { (t after : Tagging) (w lines : List ℕ) → IsReady t w →
-        Wrote (tagging_log t) (tagging_log after) lines → is_due lines ≡ true →
+        Wrote (tagging_log t) (tagging_log after) lines → is_tag_due lines ≡ true →
         IsReady after (w ++ with_tags t.tag lines) × (after.tag ≡ t.tag) }
     // If a put fails, a front of them does, and maybe the beginning of a tag.
     ensures front { (t after : Tagging) (w lines : List ℕ) → IsReady t w →
@@ -42,7 +42,7 @@ pub fn lines_stand_below()
 /// the lines with tags of both are those of the first text, and then those of the second.
 pub fn lines_with_tags()
     ensures taken { (tag text : List ℕ) → without_tags (length tag) (with_tags tag text) ≡ text }
-    ensures more { (tag first more : List ℕ) → is_due first ≡ true →
+    ensures more { (tag first more : List ℕ) → is_tag_due first ≡ true →
         with_tags tag (first ++ more) ≡ with_tags tag first ++ with_tags tag more }
 {}
 
@@ -71,7 +71,8 @@ pub fn each_stream_is_dumped()
         (leads : Leads S (start S written) events d) →
         Each (λ e. (id : ℕ) → flow_of e ≡ Some id → id / 2 < S.connections) events → (k : ℕ) →
         k < (history S no_history (start S written) events d leads).begun →
-        (history S no_history (start S written) events d leads).has_slot (number_in S k) ≡ true }
+        (history S no_history (start S written) events d leads).has_slot (next_stream_number S k)
+        ≡ true }
 {
     answers_agree();
 }

@@ -99,28 +99,30 @@ fn put_partner(line: &mut Line, partner: Option<u64>)
 pub fn time_line<O: Out>(out: &mut O, message: u64, arrival: Arrival) -> Result<(), OutFault>
     ensures { Writes result (O.log out.old) (O.log out.new) (time_line message arrival) }
 {
-    time_line_by(&mut KeptSecond::new(), out, message, arrival)
+    let (mut second, mut line) = (KeptSecond::new(), Line::new());
+    time_line_by_kept_second(&mut second, &mut line, out, message, &arrival)
 }
 
 /// Writes the same line as `time_line`. If the time is in the kept second, the text of that is used. Else the second of the
 /// time is kept, unless there is no time, or it is from the year 10000 on.
 #[tactic(auto, unfolding(crate::specs::Lines::time_line))]
 #[inline(never)]
-pub(crate) fn time_line_by<O: Out>(
+pub(crate) fn time_line_by_kept_second<O: Out>(
     second: &mut KeptSecond,
+    line: &mut Line,
     out: &mut O,
     message: u64,
-    arrival: Arrival,
+    arrival: &Arrival,
 ) -> Result<(), OutFault>
-    ensures { Writes result (O.log out.old) (O.log out.new) (time_line message arrival) }
+    ensures { Writes result (O.log out.old) (O.log out.new) (time_line message arrival.now) }
 {
-    let mut line = Line::new();
+    line.clear();
     line.put(b'\n');
     line.put_number(arrival.packet);
     line.put_octets(b" packet ");
-    second.put_time(&mut line, arrival.time);
+    second.put_time(line, arrival.time);
     line.put_octets(b" time ");
-    numbered_line(out, message, &mut line)
+    numbered_line(out, message, line)
 }
 
 /// Writes the line of the call that a Reply answers, and of how long after the call the Reply's header was complete.

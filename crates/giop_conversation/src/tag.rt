@@ -58,7 +58,7 @@ impl Tag {
 
     /// The last octets of the array. If the tag isn't longer than them, they end in the tag.
     #[inline]
-    pub(crate) fn block(&self) -> &[u8]
+    pub(crate) fn last_16_octets(&self) -> &[u8]
         ensures size { length result.now ≡ 16 }
         ensures value { length self.now ≤ 16 → drop (16 - length self.now) result.now ≡ self.now }
     {

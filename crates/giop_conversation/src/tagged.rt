@@ -1,13 +1,13 @@
 //! An `Out` that puts a tag in front of each line.
 
-ghost use Rattle.std.specs.Prelude.{◌≡◌, ◌⊎◌, ◌<◌, ◌≤◌, ◌+◌, ◌-◌, ◌^◌, ◌↔◌, true, false, List, ℕ, [], length, take, IsTrue, OnOk, MatchResult};
+ghost use Rattle.std.specs.Prelude.{◌≡◌, ◌⊎◌, ◌<◌, ◌≤◌, ◌+◌, ◌-◌, ◌^◌, ◌↔◌, true, false, List, ℕ, [], length, take, drop, IsTrue, OnOk, MatchResult};
 ghost use Rattle.std.specs.Io.KnownBytes.{Appends, Keeps};
 ghost use Rattle.giop_print.specs.Line.{line_text, line_room};
-ghost use Rattle.giop_print.specs.Output.{counted};
-ghost use Rattle.giop_conversation.specs.TaggedState.{IsShortDue};
-ghost use Rattle.giop_conversation.specs.Failing.{FailsByPut, Counts};
+ghost use Rattle.giop_print.specs.Output.{saturating_next};
+ghost use Rattle.giop_conversation.specs.TaggedState.{IsShortTagDue};
+ghost use Rattle.giop_conversation.specs.Failing.{FailsByPut, CountsFailure};
 ghost use Rattle.giop_conversation.specs.Seen.{IsSeen};
-ghost use Rattle.giop_conversation.specs.TaggedText.{line_size, due_behind, IsLine, StandsIn, PutSome, PutNothing, PutLine, PutFront};
+ghost use Rattle.giop_conversation.specs.TaggedText.{first_line_size, tag_due_after, IsOneLine, StandsTaggedIn, HasPutCounted, CountedPutFailed, HasPutTagged, TaggedPutFailed};
 
 use crate::tag::{BLOCK, Tag, no_tag};
 use giop_print::{Line, Out, OutFault};
@@ -17,8 +17,8 @@ use std::marker::Model;
 use std::simd::prelude::*;
 
 /// An `Out` that puts a tag in front of each line, in whatever pieces the lines come. It fails only if the out below fails,
-/// or if it is full: more than 2^64 - 1 octets would have been written since the tag was set, or `refuse` was called.
-/// That is done when octets come in a flow without a slot.
+/// or if it refuses: more than 2^64 - 1 octets would have been written since the tag was set, or `refuse` was called. That
+/// is done when octets come in a flow without a slot.
 #[derive(Drop)]
 pub struct Tagged<O: Out> {
     out: O,
@@ -26,11 +26,11 @@ pub struct Tagged<O: Out> {
     // How many octets of the tag must be written before the next octet.
     due: usize,
     // Whether `due` is the whole tag, and the tag isn't longer than a block.
-    is_short_due: bool,
+    is_short_tag_due: bool,
     // How many octets were written since the tag was set.
     since: u64,
     // Whether a call has failed without a put.
-    is_full: bool,
+    refused: bool,
     puts: u64,
     failures: u64,
 }
@@ -46,17 +46,17 @@ impl<O: Out> Model for Tagged<O> {
       tag = t.tag;
       due = t.due;
       since = t.since;
-      full = t.is_full;
+      refused = t.refused;
       puts = t.puts;
       failures = t.failures;
     } };
 
     ghost use Rattle.std.specs.Prelude.{◌≡◌, ◌⊎◌, ◌<◌, ◌≤◌, true, length};
-    ghost use Rattle.giop_conversation.specs.TaggedState.{IsShortDue};
+    ghost use Rattle.giop_conversation.specs.TaggedState.{IsShortTagDue};
 
     ghost invariant = { λ t. (t.due ≤ length t.tag)
-        × (t.is_short_due ≡ true → IsShortDue t.due t.tag)
-        × (0 < t.failures → (0 < (O.log t.out).failures) ⊎ (t.is_full ≡ true)) };
+        × (t.is_short_tag_due ≡ true → IsShortTagDue t.due t.tag)
+        × (0 < t.failures → (0 < (O.log t.out).failures) ⊎ (t.refused ≡ true)) };
 }
 
 impl<O: Out> Tagged<O> {
@@ -68,7 +68,7 @@ impl<O: Out> Tagged<O> {
           tag = [];
           due = 0;
           since = 0;
-          full = false;
+          refused = false;
           puts = 0;
           failures = 0;
         } }
@@ -77,9 +77,9 @@ impl<O: Out> Tagged<O> {
             out,
             tag: no_tag(),
             due: 0,
-            is_short_due: false,
+            is_short_tag_due: false,
             since: 0,
-            is_full: false,
+            refused: false,
             puts: 0,
             failures: 0,
         }
@@ -90,7 +90,7 @@ impl<O: Out> Tagged<O> {
         ensures { self.new ≡ record self.old { tag = tag; due = length tag; since = 0 } }
     {
         self.due = tag.len();
-        self.is_short_due = is_short_due(self.due, &tag);
+        self.is_short_tag_due = is_short_tag_due(self.due, &tag);
         self.tag = tag;
         self.since = 0;
     }
@@ -103,27 +103,31 @@ impl<O: Out> Tagged<O> {
     }
 
     /// Whether a call has failed without a put.
-    pub fn is_full(&self) -> bool
-        ensures { result ≡ self.now.full }
+    pub fn has_refused(&self) -> bool
+        ensures { result ≡ self.now.refused }
     {
-        self.is_full
+        self.refused
     }
 
-    /// Fails without a put: it is full from now on.
+    /// Fails without a put: it has refused from now on.
     pub fn refuse(&mut self) -> OutFault
-        ensures { self.new ≡ record self.old { full = true; failures = counted self.old.failures } }
+        ensures { self.new ≡ record self.old {
+          refused = true;
+          failures =
+              saturating_next self.old.failures;
+        } }
     {
-        self.is_full = true;
-        self.failures = one_more(self.failures);
+        self.refused = true;
+        self.failures = saturating_add_one(self.failures);
         OutFault
     }
 
     /// Gives the out below back.
     pub fn into_out(self) -> O
         ensures written { (O.log result).written ≡ self.whole }
-        // If this has failed, the out below has failed, unless this is full.
+        // If this has failed, the out below has failed, unless this has refused.
         ensures cause { 0 < self.failures →
-            (0 < (O.log result).failures) ⊎ (self.full ≡ true) }
+            (0 < (O.log result).failures) ⊎ (self.refused ≡ true) }
     {
         self.out
     }
@@ -144,7 +148,7 @@ impl<O: Flush> Tagged<O> {
         match self.out.flush() {
             Ok(()) => Ok(()),
             Err(fault) => {
-                self.failures = one_more(self.failures);
+                self.failures = saturating_add_one(self.failures);
                 Err(fault)
             }
         }
@@ -153,7 +157,7 @@ impl<O: Flush> Tagged<O> {
 
 impl<O: Out> Out for Tagged<O> {
     ghost use Rattle.std.specs.Prelude.{◌≡◌, ◌⊎◌, OnErr, MatchResult};
-    ghost use Rattle.giop_print.specs.Output.{counted, Took, Failed, Writes};
+    ghost use Rattle.giop_print.specs.Output.{saturating_next, Took, Failed, Writes};
     ghost use Rattle.giop_print.specs.Line.{line_text};
     ghost use Rattle.giop_conversation.specs.TaggedState.{tagging_log};
     ghost use Rattle.giop_conversation.specs.Failing.{FailsBelow};
@@ -166,11 +170,11 @@ impl<O: Out> Out for Tagged<O> {
             (λ _. Failed (tagging_log self.old) (tagging_log self.new)) }
         ensures cause { FailsBelow result self.old self.new octets.now }
     {
-        self.puts = one_more(self.puts);
+        self.puts = saturating_add_one(self.puts);
         if octets.is_empty() {
             return Ok(0);
         }
-        if !can_count(self.since, self.due, octets.len()) {
+        if !counts_fit_u64(self.since, self.due, octets.len()) {
             return Err(self.refuse());
         }
         let put = put_tagged(
@@ -180,11 +184,11 @@ impl<O: Out> Out for Tagged<O> {
             &mut self.since,
             octets,
         );
-        self.is_short_due = is_short_due(self.due, &self.tag);
+        self.is_short_tag_due = is_short_tag_due(self.due, &self.tag);
         match put {
             Ok(taken) => Ok(taken),
             Err(fault) => {
-                self.failures = one_more(self.failures);
+                self.failures = saturating_add_one(self.failures);
                 Err(fault)
             }
         }
@@ -210,26 +214,26 @@ impl<O: Out> Out for Tagged<O> {
             (line_text line.old) }
         ensures cause { FailsBelow result self.old self.new (line_text line.old) }
     {
-        if !fits_before(self.is_short_due, self.since, line) {
+        if !can_put_in_one_step(self.is_short_tag_due, self.since, line) {
             return self.put_all(line.text());
         }
-        line.put_end(self.tag.block(), self.tag.len());
+        line.put_end(self.tag.last_16_octets(), self.tag.len());
         let text = line.text();
-        let taken = put_most(&mut self.out, text);
+        let taken = put_until_failure(&mut self.out, text);
         self.since += taken as u64;
         if taken == text.len() {
             return Ok(());
         }
         self.due = self.due.saturating_sub(taken);
-        self.is_short_due = false;
-        self.failures = one_more(self.failures);
+        self.is_short_tag_due = false;
+        self.failures = saturating_add_one(self.failures);
         Err(OutFault)
     }
 }
 
 /// Whether a whole tag is due, and it is no longer than a block.
-fn is_short_due(due: usize, tag: &Tag) -> bool
-    ensures { IsTrue result → IsShortDue due tag.now }
+fn is_short_tag_due(due: usize, tag: &Tag) -> bool
+    ensures { IsTrue result → IsShortTagDue due tag.now }
 {
     matches!(due, 1..=BLOCK) && due == tag.len()
 }
@@ -237,49 +241,72 @@ fn is_short_due(due: usize, tag: &Tag) -> bool
 /// Whether a line and its tag can be put in one step: the whole tag is due and short, the line has room for it, the octets
 /// since the tag was set can still be counted, and the text is one line with its end.
 #[inline]
-fn fits_before(is_short_due: bool, since: u64, line: &Line) -> bool
-    ensures short { IsTrue result → is_short_due ≡ true }
+fn can_put_in_one_step(is_short_tag_due: bool, since: u64, line: &Line) -> bool
+    ensures short { IsTrue result → is_short_tag_due ≡ true }
     ensures room { IsTrue result → 16 ≤ line_room line.now }
-    ensures line { IsTrue result → IsLine (line_text line.now) }
+    ensures line { IsTrue result → IsOneLine (line_text line.now) }
     ensures counts { IsTrue result → since < 2 ^ 63 }
 {
-    is_short_due && since < MOST && is_line(line)
+    is_short_tag_due && since < MOST && is_one_line_with_room(line)
 }
 
 /// If this many octets were written since the tag was set, a line and its tag are no longer put in one step.
 const MOST: u64 = 1 << 63;
 
 /// Whether the text is one line with its end, and there is room for a block before it. A short line is looked at in one
-/// step.
+/// step, and most others in two.
 #[inline]
-fn is_line(line: &Line) -> bool
-    ensures line { IsTrue result → IsLine (line_text line.now) }
+fn is_one_line_with_room(line: &Line) -> bool
+    ensures line { IsTrue result → IsOneLine (line_text line.now) }
     ensures room { IsTrue result → 16 ≤ line_room line.now }
 {
     match line.room() {
-        192..=255 => only_last_is_end(line.last_octets()),
-        room => room >= BLOCK && is_long_line(line.text()),
+        192..=255 => only_last_of_64_is_lf(line.last_octets()),
+        144..=191 => no_lf_in_first_48(line.text()) && only_last_of_64_is_lf(line.last_octets()),
+        room => room >= BLOCK && is_one_line(line.text()),
     }
 }
 
 /// Whether the last of 64 octets is the end of a line, and no other of them is.
 #[inline]
-fn only_last_is_end(octets: &[u8]) -> bool
+fn only_last_of_64_is_lf(octets: &[u8]) -> bool
     requires { length octets.now ≡ 64 }
-    ensures { IsTrue result → IsLine octets.now }
+    ensures { IsTrue result → IsOneLine octets.now }
 {
+    no_lf_in_first_48(octets) && only_last_of_16_is_lf(&octets[48..])
+}
+
+/// Whether there are at least 64 octets, and none of the first 48 is the end of a line. Then all are one line if those after
+/// some of these 48 are.
+#[inline]
+fn no_lf_in_first_48(octets: &[u8]) -> bool
+    ensures { IsTrue result →
+        (k : ℕ) → k ≤ 48 → IsOneLine (drop k octets.now) → IsOneLine octets.now }
+{
+    if octets.len() < 64 {
+        return false;
+    }
     let end = u8x16::splat(b'\n');
     let first = u8x16::from_slice(octets).simd_eq(end);
     let second = u8x16::from_slice(&octets[16..]).simd_eq(end);
     let third = u8x16::from_slice(&octets[32..]).simd_eq(end);
-    let last = u8x16::from_slice(&octets[48..]).simd_eq(end);
-    !(first | second | third).any() && last.to_bitmask() == 1 << 15
+    !(first | second | third).any()
+}
+
+/// Whether the last of 16 octets is the end of a line, and no other of them is.
+#[inline]
+fn only_last_of_16_is_lf(octets: &[u8]) -> bool
+    requires { length octets.now ≡ 16 }
+    ensures { IsTrue result → IsOneLine octets.now }
+{
+    let ends = u8x16::from_slice(octets).simd_eq(u8x16::splat(b'\n'));
+    ends.to_bitmask() == 1 << 15
 }
 
 /// Whether octets are one line with its end.
 #[inline(never)]
-fn is_long_line(octets: &[u8]) -> bool
-    ensures { IsTrue result → IsLine octets.now }
+fn is_one_line(octets: &[u8]) -> bool
+    ensures { IsTrue result → IsOneLine octets.now }
 {
     match octets.split_last() {
         Some((last, front)) => *last == b'\n' && !front.contains(&b'\n'),
@@ -290,37 +317,37 @@ fn is_long_line(octets: &[u8]) -> bool
 /// Puts a text to an out until the out has taken all of it or a put fails. Returns how many octets the out took. One put is
 /// mostly enough.
 #[inline]
-fn put_most<O: Out>(out: &mut O, text: &[u8]) -> usize
+fn put_until_failure<O: Out>(out: &mut O, text: &[u8]) -> usize
     ensures within { result ≤ length text.now }
     ensures written { Appends (O.log out.old).written (O.log out.new).written
         (take result text.now) }
     ensures none { result ≡ length text.now → 0 < length text.now →
         (O.log out.new).failures ≡ (O.log out.old).failures }
     ensures cause { result < length text.now →
-        (O.log out.new).failures ≡ counted (O.log out.old).failures }
+        (O.log out.new).failures ≡ saturating_next (O.log out.old).failures }
 {
     match out.put(text) {
         Ok(taken) => {
             if taken == text.len() {
                 return taken;
             }
-            taken + put_more(out, &text[taken..])
+            taken + put_pieces_until_failure(out, &text[taken..])
         }
         Err(_) => 0,
     }
 }
 
-/// Puts octets as `put_most` does, by as many puts as it takes.
+/// Puts octets as `put_until_failure` does, by as many puts as it takes.
 #[cold]
 #[inline(never)]
-fn put_more<O: Out>(out: &mut O, octets: &[u8]) -> usize
+fn put_pieces_until_failure<O: Out>(out: &mut O, octets: &[u8]) -> usize
     ensures within { result ≤ length octets.now }
     ensures written { Appends (O.log out.old).written (O.log out.new).written
         (take result octets.now) }
     ensures none { result ≡ length octets.now → 0 < length octets.now →
         (O.log out.new).failures ≡ (O.log out.old).failures }
     ensures cause { result < length octets.now →
-        (O.log out.new).failures ≡ counted (O.log out.old).failures }
+        (O.log out.new).failures ≡ saturating_next (O.log out.old).failures }
 {
     let mut at = 0;
     while at < octets.len() {
@@ -333,15 +360,15 @@ fn put_more<O: Out>(out: &mut O, octets: &[u8]) -> usize
 }
 
 /// One more than a count, or the greatest number of 64 bits if the count is that.
-#[tactic(auto, unfolding(giop_print::specs::Output::counted))]
-fn one_more(count: u64) -> u64
-    ensures { result ≡ counted count }
+#[tactic(auto, unfolding(giop_print::specs::Output::saturating_next))]
+fn saturating_add_one(count: u64) -> u64
+    ensures { result ≡ saturating_next count }
 {
     count.saturating_add(1)
 }
 
 /// Whether these octets, and the octets of a tag that are due, can be counted in addition to those since the tag was set.
-fn can_count(since: u64, due: usize, octets: usize) -> bool
+fn counts_fit_u64(since: u64, due: usize, octets: usize) -> bool
     ensures { IsTrue result ↔ since + (due + octets) < 2 ^ 64 }
 {
     match since.checked_add(due as u64) {
@@ -354,10 +381,11 @@ fn can_count(since: u64, due: usize, octets: usize) -> bool
 fn put_counted<O: Out>(out: &mut O, since: &mut u64, octets: &[u8]) -> Result<usize, OutFault>
     requires room { since.old + length octets.now < 2 ^ 64 }
     ensures does { MatchResult result
-        (λ n. PutSome (O.log out.old).written (O.log out.new).written octets.now since.old since.new
-        n)
-        (λ _. PutNothing (O.log out.old).written (O.log out.new).written since.old since.new) }
-    ensures cause { Counts result (O.log out.old).failures (O.log out.new).failures }
+        (λ n. HasPutCounted (O.log out.old).written (O.log out.new).written octets.now
+        since.old since.new n)
+        (λ _. CountedPutFailed (O.log out.old).written (O.log out.new).written
+        since.old since.new) }
+    ensures cause { CountsFailure result (O.log out.old).failures (O.log out.new).failures }
 {
     match out.put(octets) {
         Ok(taken) => {
@@ -378,12 +406,12 @@ fn put_tag<O: Out>(
     requires within { due.old ≤ length tag.now }
     requires room { since.old + due.old < 2 ^ 64 }
     ensures stands { (before text : List ℕ) →
-        StandsIn (O.log out.old).written before tag.now since.old text due.old →
-        StandsIn (O.log out.new).written before tag.now since.new text due.new }
+        StandsTaggedIn (O.log out.old).written before tag.now since.old text due.old →
+        StandsTaggedIn (O.log out.new).written before tag.now since.new text due.new }
     ensures within { due.new ≤ length tag.now }
     ensures done { OnOk result (due.new ≡ 0) }
     ensures count { since.new + due.new ≡ since.old + due.old }
-    ensures cause { Counts result (O.log out.old).failures (O.log out.new).failures }
+    ensures cause { CountsFailure result (O.log out.old).failures (O.log out.new).failures }
 {
     while *due > 0 {
         match put_counted(out, since, &tag[tag.len() - *due..]) {
@@ -395,8 +423,8 @@ fn put_tag<O: Out>(
 }
 
 /// How many octets the first line has, with its end if it ends here.
-fn line_size(octets: &[u8]) -> usize
-    ensures value { result ≡ line_size octets.now }
+fn first_line_size(octets: &[u8]) -> usize
+    ensures value { result ≡ first_line_size octets.now }
     ensures within { result ≤ length octets.now }
     ensures some { 0 < length octets.now → 0 < result }
 {
@@ -407,15 +435,15 @@ fn line_size(octets: &[u8]) -> usize
 }
 
 /// How many octets of the tag are due after an octet.
-fn due_behind(tag: &[u8], octet: u8) -> usize
-    ensures { result ≡ due_behind tag.now octet }
+fn tag_due_after(tag: &[u8], octet: u8) -> usize
+    ensures { result ≡ tag_due_after tag.now octet }
 {
     if octet == b'\n' { tag.len() } else { 0 }
 }
 
 /// Puts octets of one line, at least one, when nothing of the tag is due. If the line ends in them, the tag of the next
 /// line is due.
-fn put_line<O: Out>(
+fn put_part_of_line<O: Out>(
     out: &mut O,
     tag: &[u8],
     due: &mut usize,
@@ -426,16 +454,16 @@ fn put_line<O: Out>(
     requires none { due.old ≡ 0 }
     requires room { since.old + length octets.now < 2 ^ 64 }
     ensures does { MatchResult result
-        (λ n. PutLine (O.log out.old).written (O.log out.new).written tag.now octets.now
+        (λ n. HasPutTagged (O.log out.old).written (O.log out.new).written tag.now octets.now
         since.old since.new due.old due.new n)
-        (λ _. PutFront (O.log out.old).written (O.log out.new).written tag.now
+        (λ _. TaggedPutFailed (O.log out.old).written (O.log out.new).written tag.now
         since.old since.new due.old due.new) }
-    ensures cause { Counts result (O.log out.old).failures (O.log out.new).failures }
+    ensures cause { CountsFailure result (O.log out.old).failures (O.log out.new).failures }
 {
-    let size = line_size(octets);
+    let size = first_line_size(octets);
     match put_counted(out, since, &octets[..size]) {
         Ok(taken) => {
-            *due = due_behind(tag, octets[taken - 1]);
+            *due = tag_due_after(tag, octets[taken - 1]);
             Ok(taken)
         }
         Err(fault) => Err(fault),
@@ -454,14 +482,14 @@ fn put_tagged<O: Out>(
     requires within { due.old ≤ length tag.now }
     requires room { since.old + (due.old + length octets.now) < 2 ^ 64 }
     ensures does { MatchResult result
-        (λ n. PutLine (O.log out.old).written (O.log out.new).written tag.now octets.now
+        (λ n. HasPutTagged (O.log out.old).written (O.log out.new).written tag.now octets.now
         since.old since.new due.old due.new n)
-        (λ _. PutFront (O.log out.old).written (O.log out.new).written tag.now
+        (λ _. TaggedPutFailed (O.log out.old).written (O.log out.new).written tag.now
         since.old since.new due.old due.new) }
-    ensures cause { Counts result (O.log out.old).failures (O.log out.new).failures }
+    ensures cause { CountsFailure result (O.log out.old).failures (O.log out.new).failures }
 {
     match put_tag(out, tag, due, since) {
-        Ok(()) => put_line(out, tag, due, since, octets),
+        Ok(()) => put_part_of_line(out, tag, due, since, octets),
         Err(fault) => Err(fault),
     }
 }

@@ -4,7 +4,7 @@ ghost use Rattle.std.specs.Prelude.{◌≡◌, ◌+◌, ◌-◌, ◌/◌, ◌%�
 ghost use Rattle.giop_print.specs.Line.{line_text, line_room};
 ghost use Rattle.httpdate.specs.Calendar as calendar;
 ghost use Rattle.httpdate.specs.Text.{two_digits};
-ghost use Rattle.giop_conversation.specs.Times.{years, years_of, months_of, month_and_day, day_text, clock_text, last_digits, seconds_text, span_text, second, day};
+ghost use Rattle.giop_conversation.specs.Times.{years_to_9999, whole_years_of, whole_months_of, month_and_day, day_text, time_of_day_text, last_digits, seconds_text, span_text, nanoseconds_per_second, nanoseconds_per_day};
 
 use giop_print::Line;
 use itoa::Buffer;
@@ -39,7 +39,7 @@ fn days_in_year(year: u16) -> u16
 
 /// The number of days in the first years from 1970 on, by the number of those years.
 fn days_of_years(passed: u16) -> u32
-    requires { passed ≤ years }
+    requires { passed ≤ years_to_9999 }
     ensures { result ≡ calendar.days_of_years passed }
 {
     let since_1601 = u32::from(passed) + 369;
@@ -48,10 +48,10 @@ fn days_of_years(passed: u16) -> u32
 
 /// The number of whole years from 1970 on that these days make, and the days that are left. From the year 10000 on there
 /// are none.
-pub(crate) fn years_of(days: u64) -> Option<(u16, u16)>
-    ensures { MatchOption result (calendar.days_of_years years ≤ days)
-        (λ found. (days < calendar.days_of_years years) × (found.0 ≡ years_of days)
-        × (found.0 < years)
+pub(crate) fn years_and_days_of(days: u64) -> Option<(u16, u16)>
+    ensures { MatchOption result (calendar.days_of_years years_to_9999 ≤ days)
+        (λ found. (days < calendar.days_of_years years_to_9999) × (found.0 ≡ whole_years_of days)
+        × (found.0 < years_to_9999)
         × (found.1 ≡ days - calendar.days_of_years found.0)
         × (found.1 < calendar.days_in_year (1970 + found.0))) }
 {
@@ -72,7 +72,7 @@ pub(crate) fn years_of(days: u64) -> Option<(u16, u16)>
 }
 
 /// The number, from 0, that a day of a year would have in a year whose February has 30 days.
-fn even_day(year: u16, days: u16) -> u16
+fn day_with_february_of_30(year: u16, days: u16) -> u16
     requires { days < calendar.days_in_year year }
     ensures early { days < calendar.days_in_year year - 306 → result ≡ days }
     ensures past { calendar.days_in_year year - 306 ≤ days →
@@ -89,21 +89,21 @@ fn even_day(year: u16, days: u16) -> u16
 
 /// The number of whole months of a year that its first days make, and the days that are left. In a year whose February has
 /// 30 days, (367 m + 5) / 12 days come before month m, counted from 0.
-fn months_of(year: u16, days: u16) -> (u8, u8)
+fn months_and_days_of(year: u16, days: u16) -> (u8, u8)
     requires within { days < calendar.days_in_year year }
-    ensures value { result.0 ≡ months_of year days }
+    ensures value { result.0 ≡ whole_months_of year days }
     ensures few { result.0 < 12 }
     ensures rest { result.1 ≡ days - calendar.days_of_months year result.0 }
     ensures short { result.1 < 31 }
 {
-    let even = even_day(year, days);
+    let even = day_with_february_of_30(year, days);
     let months = (12 * even + 6) / 367;
     (months as u8, (even - (367 * months + 5) / 12) as u8)
 }
 
 /// Puts the two decimal digits of a number before the text that the line has.
 #[inline]
-fn put_two(line: &mut Line, n: u32)
+fn put_two_digits(line: &mut Line, n: u32)
     requires room { 2 ≤ line_room line.old }
     requires few { n < 100 }
     ensures text { line_text line.new ≡ two_digits n ++ line_text line.old }
@@ -117,77 +117,83 @@ fn put_two(line: &mut Line, n: u32)
 /// Puts a day before the text that the line has. The day is given by the whole years from 1970 on, and the days of its year
 /// before it.
 #[tactic(auto, unfolding(crate::specs::Times::day_text))]
-fn put_day(line: &mut Line, passed: u16, days: u16)
+fn put_date(line: &mut Line, years_since_1970: u16, day_of_year: u16)
     requires room { 10 ≤ line_room line.old }
-    requires year { passed < years }
-    requires within { days < calendar.days_in_year (1970 + passed) }
-    ensures text { line_text line.new ≡ day_text passed days ++ line_text line.old }
+    requires year { years_since_1970 < years_to_9999 }
+    requires within { day_of_year < calendar.days_in_year (1970 + years_since_1970) }
+    ensures text { line_text line.new
+        ≡ day_text years_since_1970 day_of_year ++ line_text line.old }
     ensures room { line_room line.new + 10 ≡ line_room line.old }
 {
-    let year = 1970 + passed;
-    let (months, rest) = months_of(year, days);
-    put_two(line, u32::from(rest) + 1);
+    let year = 1970 + years_since_1970;
+    let (months, rest) = months_and_days_of(year, day_of_year);
+    put_two_digits(line, u32::from(rest) + 1);
     line.put(b'-');
-    put_two(line, u32::from(months) + 1);
+    put_two_digits(line, u32::from(months) + 1);
     line.put(b'-');
-    put_two(line, u32::from(year % 100));
-    put_two(line, u32::from(year / 100));
+    put_two_digits(line, u32::from(year % 100));
+    put_two_digits(line, u32::from(year / 100));
 }
 
 /// Puts the hour, the minute and the second before the text that the line has, by the seconds of the day.
-#[tactic(auto, unfolding(crate::specs::Times::clock_text))]
-fn put_clock(line: &mut Line, seconds: u32)
+#[tactic(auto, unfolding(crate::specs::Times::time_of_day_text))]
+fn put_time_of_day(line: &mut Line, second_of_day: u32)
     requires room { 8 ≤ line_room line.old }
-    requires day { seconds < 86_400 }
-    ensures text { line_text line.new ≡ clock_text seconds ++ line_text line.old }
+    requires day { second_of_day < 86_400 }
+    ensures text { line_text line.new ≡ time_of_day_text second_of_day ++ line_text line.old }
     ensures room { line_room line.new + 8 ≡ line_room line.old }
 {
-    put_two(line, seconds % 60);
+    put_two_digits(line, second_of_day % 60);
     line.put(b':');
-    put_two(line, seconds % 3600 / 60);
+    put_two_digits(line, second_of_day % 3600 / 60);
     line.put(b':');
-    put_two(line, seconds / 3600);
+    put_two_digits(line, second_of_day / 3600);
 }
 
 /// Puts the last nine decimal digits of a number before the text that the line has.
 #[inline]
 #[tactic(auto, unfolding(crate::specs::Times::last_digits))]
-pub(crate) fn put_nine(line: &mut Line, n: u32)
+pub(crate) fn put_last_nine_digits(line: &mut Line, n: u32)
     requires room { 9 ≤ line_room line.old }
     ensures text { line_text line.new ≡ last_digits 9 n ++ line_text line.old }
     ensures room { line_room line.new + 9 ≡ line_room line.old }
 {
     let (high, low) = (n / 10_000, n % 10_000);
-    put_two(line, low % 100);
-    put_two(line, low / 100);
-    put_two(line, high % 100);
-    put_two(line, high / 100 % 100);
+    put_two_digits(line, low % 100);
+    put_two_digits(line, low / 100);
+    put_two_digits(line, high % 100);
+    put_two_digits(line, high / 100 % 100);
     line.put(b'0' + (high / 10_000 % 10) as u8);
 }
 
 /// Puts a second before the text that the line has. It is given by the whole years from 1970 on, the days of its year
 /// before it, and the seconds of the day.
-pub(crate) fn put_second(line: &mut Line, passed: u16, days: u16, seconds: u32)
+pub(crate) fn put_date_and_second(
+    line: &mut Line,
+    years_since_1970: u16,
+    day_of_year: u16,
+    second_of_day: u32,
+)
     requires room { 20 ≤ line_room line.old }
-    requires year { passed < years }
-    requires within { days < calendar.days_in_year (1970 + passed) }
-    requires day { seconds < 86_400 }
-    ensures text { line_text line.new ≡ (day_text passed days ++ (codes "T"
-        ++ (clock_text seconds ++ codes "."))) ++ line_text line.old }
+    requires year { years_since_1970 < years_to_9999 }
+    requires within { day_of_year < calendar.days_in_year (1970 + years_since_1970) }
+    requires day { second_of_day < 86_400 }
+    ensures text { line_text line.new ≡ (day_text years_since_1970 day_of_year ++ (codes "T"
+        ++ (time_of_day_text second_of_day ++ codes "."))) ++ line_text line.old }
     ensures room { line_room line.new + 20 ≡ line_room line.old }
 {
     line.put(b'.');
-    put_clock(line, seconds);
+    put_time_of_day(line, second_of_day);
     line.put(b'T');
-    put_day(line, passed, days);
+    put_date(line, years_since_1970, day_of_year);
 }
 
 /// The whole seconds in a number of nanoseconds, and the nanoseconds that are left. Most numbers fit 64 bits, and these are
 /// divided in 64 bits, which is much quicker.
 #[inline]
-pub(crate) fn seconds_of(nanoseconds: u128) -> (u128, u32)
-    ensures value { result.0 ≡ nanoseconds / second }
-    ensures rest { result.1 ≡ nanoseconds % second }
+pub(crate) fn split_nanoseconds(nanoseconds: u128) -> (u128, u32)
+    ensures value { result.0 ≡ nanoseconds / nanoseconds_per_second }
+    ensures rest { result.1 ≡ nanoseconds % nanoseconds_per_second }
 {
     match u64::try_from(nanoseconds) {
         Ok(few) => (u128::from(few / SECOND), (few % SECOND) as u32),
@@ -205,8 +211,8 @@ fn put_seconds(line: &mut Line, nanoseconds: u128)
     ensures text { line_text line.new ≡ seconds_text nanoseconds ++ line_text line.old }
     ensures room { line_room line.old ≤ line_room line.new + 40 }
 {
-    let (seconds, rest) = seconds_of(nanoseconds);
-    put_nine(line, rest);
+    let (seconds, rest) = split_nanoseconds(nanoseconds);
+    put_last_nine_digits(line, rest);
     line.put(b'.');
     match u64::try_from(seconds) {
         Ok(seconds) => line.put_number(seconds),

@@ -17,21 +17,22 @@ pub record SideState : Type 0 where
   pub theirs : Entries Call
 
 -- the operation of a number, if the table has it
-abbrev pub operation_numbered : Table → ℕ → Option OpId
-operation_numbered C n = if nat_lt n (length C.operations) then Some (op_id n) else None
+abbrev pub operation_numbered : (C : Table) (number : ℕ) → Option OpId
+operation_numbered C number =
+    if nat_lt number (length C.operations) then Some (op_id number) else None
 
 -- the operation of the call of the other direction with this id
-abbrev pub answered_operation : SideState → ℕ → Option OpId
+abbrev pub answered_operation : (s : SideState) (id : ℕ) → Option OpId
 answered_operation s id =
     option_and_then (λ e. option_and_then (operation_numbered s.table) e.value.operation)
     (find (λ e. e.key == id) s.theirs.entries)
 
 -- the octets of a name, if there is room for them
-abbrev pub kept_name : List ℕ → List ℕ
+abbrev pub kept_name : (name : List ℕ) → List ℕ
 kept_name name = if nat_le (length name) 128 then name else []
 
 -- the call that a Request makes
-abbrev pub call_of : ℕ → List ℕ → Option OpId → Call
+abbrev pub call_of : (number : ℕ) (name : List ℕ) (operation : Option OpId) → Call
 call_of number name operation = record {
   name = record { items = kept_name name };
   operation = option_map (λ o. o.0) operation;
@@ -42,8 +43,8 @@ call_of number name operation = record {
 
 -- the calls after a Request with this id: if its call line can be shown and it expects a reply, its
 -- call is the newest one
-abbrev pub requested :
-    ℕ → ℕ → Option (List ℕ) → Option OpId → Bool → Entries Call → Entries Call
+abbrev pub requested : (number id : ℕ) (name : Option (List ℕ)) (operation : Option OpId)
+    (expects : Bool) (calls : Entries Call) → Entries Call
 requested number id None operation expects calls =
     record calls { entries = without id calls.entries }
 requested number id (Some name) operation false calls =

@@ -1,7 +1,7 @@
 //! A connection whose two directions are read. The calls of each direction give the types for the other.
 
 ghost use Rattle.std.specs.Prelude.{IfOk, ◌≡◌};
-ghost use Rattle.giop_stream.specs.EngineHolds.{AreOf};
+ghost use Rattle.giop_stream.specs.EngineHolds.{IsRequestTableOf};
 
 use super::side::Side;
 use giop_calls::Calls;
@@ -50,7 +50,7 @@ impl<'a> Connection<'a> {
         requests: &'a Requests,
         calls: u32,
     ) -> io::Result<Connection<'a>>
-        requires of { AreOf catalogue.now requests.now }
+        requires of { IsRequestTableOf catalogue.now requests.now }
     {
         Ok(Connection {
             catalogue,
@@ -113,7 +113,7 @@ fn engine<'a>(
     catalogue: &'a Catalogue,
     requests: &'a Requests,
 ) -> io::Result<Engine<'a>>
-    requires of { AreOf catalogue.now requests.now }
+    requires of { IsRequestTableOf catalogue.now requests.now }
     ensures table { IfOk result (λ e. e.table ≡ catalogue.now) }
 {
     match Engine::new(alloc, catalogue, requests, 16) {

@@ -25,7 +25,7 @@ mod reading;
 mod side;
 mod telling;
 
-use giop_run::{Inputs, front};
+use giop_run::{Inputs, read_to_one_over};
 use giop_testing::Tally;
 use std::process::ExitCode;
 use telling::tell;
@@ -34,7 +34,7 @@ use telling::tell;
 const MOST: u64 = 16_777_216;
 
 fn main(rt: HostRuntime) -> ExitCode {
-    let Ok(octets) = front(rt.alloc(), &mut rt.standard_input(), MOST) else {
+    let Ok(octets) = read_to_one_over(rt.alloc(), &mut rt.standard_input(), MOST) else {
         return ExitCode::from(4);
     };
     let Ok(text) = str::from_utf8(&octets) else {

@@ -1,7 +1,7 @@
 //! How a conversation is read, with its pieces as they are and cut into smaller ones, and how the lines of each piece are
 //! compared.
 
-ghost use Rattle.giop_stream.specs.EngineHolds.{AreOf};
+ghost use Rattle.giop_stream.specs.EngineHolds.{IsRequestTableOf};
 
 use super::connection::Connection;
 use super::conversation::{Conversation, Piece};
@@ -21,7 +21,7 @@ pub fn is_read_each_way(
     requests: &Requests,
     conversation: &Conversation,
 ) -> io::Result<bool>
-    requires of { AreOf catalogue.now requests.now }
+    requires of { IsRequestTableOf catalogue.now requests.now }
 {
     for size in SIZES {
         let connection = Connection::new(rt.alloc(), catalogue, requests, conversation.calls)?;

@@ -1,6 +1,6 @@
 //! How the sets of conversations are read, each conversation is tried, and it is printed whether it differs.
 
-ghost use Rattle.giop_stream.specs.EngineHolds.{AreOf};
+ghost use Rattle.giop_stream.specs.EngineHolds.{IsRequestTableOf};
 
 use super::conversation::Conversation;
 use super::reading::is_read_each_way;
@@ -42,7 +42,7 @@ fn tell_conversations(
     conversations: &str,
     tally: &mut Tally,
 ) -> io::Result<()>
-    requires of { AreOf catalogue.now requests.now }
+    requires of { IsRequestTableOf catalogue.now requests.now }
 {
     for text in conversations.split("\n\n") {
         match Conversation::read(text) {

@@ -6,6 +6,10 @@ mod conversation_tests;
 #[cfg(test)]
 mod exchange_tests;
 #[cfg(test)]
+mod expecting;
+#[cfg(test)]
+mod known;
+#[cfg(test)]
 mod line_tests;
 #[cfg(test)]
 mod tag_tests;

@@ -1,57 +1,73 @@
 //! Lines with tags, put in pieces of each size, and when the out below is full.
 
+use crate::expecting::{expect, expect_at};
 use giop_conversation::{Tagged, no_tag, stream_tag};
 use giop_print::{Line, Out, OutFault, Sheet, put_all};
-use std::test::Fail;
 
-const LINES: &[u8] = b"m1 end\n\nm2 end\nm3 ";
+static LINES: &[u8] = b"m1 end\n\nm2 end\nm3 ";
 
 /// The lines with the tag of stream 12, and after them a line without a tag.
-const TAGGED: &[u8] = b"s12 m1 end\ns12 \ns12 m2 end\ns12 m3 total\n";
+static TAGGED: &[u8] = b"s12 m1 end\ns12 \ns12 m2 end\ns12 m3 total\n";
+
+/// An out with the tag of a stream.
+fn tagged(stream: u64, room: &mut [u8]) -> Tagged<Sheet<'_>> {
+    let mut tagged = Tagged::new(Sheet::new(room));
+    tagged.set_tag(stream_tag(stream));
+    tagged
+}
+
+/// Whether the out below has this text.
+fn holds(tagged: Tagged<Sheet<'_>>, want: &[u8]) -> bool {
+    tagged.into_out().held() == want
+}
 
 /// Puts octets in pieces of this size.
-fn put_pieces<O: Out>(out: &mut O, octets: &[u8], size: usize) -> Result<(), OutFault> {
+fn put_pieces(out: &mut Tagged<Sheet<'_>>, octets: &[u8], size: usize) -> Result<(), OutFault> {
     for piece in octets.chunks(size.max(1)) {
         put_all(out, piece)?;
     }
     Ok(())
 }
 
-/// Puts the lines with a tag, and a line without one.
-fn put_lines(sheet: Sheet, size: usize) -> Result<Sheet, OutFault> {
-    let mut tagged = Tagged::new(sheet);
-    tagged.set_tag(stream_tag(12));
-    put_pieces(&mut tagged, LINES, size)?;
-    tagged.set_tag(no_tag());
-    put_all(&mut tagged, b"total\n")?;
-    Ok(tagged.into_out())
+/// Puts a line without a tag.
+fn put_untagged(out: &mut Tagged<Sheet<'_>>) -> Result<(), OutFault> {
+    out.set_tag(no_tag());
+    put_all(out, b"total\n")
+}
+
+/// Whether each of the lines, put in pieces of this size, has the tag.
+fn is_tagged_in_pieces(size: usize) -> bool {
+    let mut room = [0; 64];
+    let mut tagged = tagged(12, &mut room);
+    put_pieces(&mut tagged, LINES, size).is_ok()
+        && put_untagged(&mut tagged).is_ok()
+        && holds(tagged, TAGGED)
 }
 
 #[test]
-fn each_line_has_its_tag_in_pieces_of_any_size(rt: HostRuntime) -> Result<(), Fail> {
+fn each_line_has_its_tag_in_pieces_of_any_size(rt: HostRuntime) {
     for size in 1..20 {
-        let mut room = [0; 64];
-        let sheet = put_lines(Sheet::new(&mut room), size)?;
-        assert!(rt; sheet.held() == TAGGED, "{size}");
+        expect_at(&rt, is_tagged_in_pieces(size), size);
     }
-    Ok(())
+}
+
+/// Whether an out with only this much room has a front of the lines.
+fn has_front(size: usize) -> bool {
+    let mut room = [0; 64];
+    let (front, _) = room.split_at_mut(size.min(64));
+    let mut tagged = tagged(12, front);
+    put_all(&mut tagged, LINES).is_err() && holds(tagged, TAGGED.split_at(size.min(30)).0)
 }
 
 #[test]
 fn a_full_out_has_a_front_of_the_lines(rt: HostRuntime) {
     for size in 1..30 {
-        let mut room = [0; 64];
-        let mut tagged = Tagged::new(Sheet::new(&mut room[..size]));
-        tagged.set_tag(stream_tag(12));
-        let is_written = put_all(&mut tagged, LINES).is_ok();
-        assert!(rt; !is_written, "{size}");
-        let sheet = tagged.into_out();
-        assert!(rt; sheet.held() == &TAGGED[..size], "{size}");
+        expect_at(&rt, has_front(size), size);
     }
 }
 
 /// Puts a text as one spelled line.
-fn put_spelled<O: Out>(out: &mut O, text: &[u8]) -> Result<(), OutFault> {
+fn put_spelled(out: &mut Tagged<Sheet<'_>>, text: &[u8]) -> Result<(), OutFault> {
     let mut line = Line::new();
     if text.len() > line.room() {
         return Err(OutFault);
@@ -60,95 +76,110 @@ fn put_spelled<O: Out>(out: &mut O, text: &[u8]) -> Result<(), OutFault> {
     out.put_line(&mut line)
 }
 
-/// What is put as one line, and what the out below then has: for one line, for two, for a line without its end, for no
-/// octet, and for an end alone.
-const SPELLED: [(&[u8], &[u8]); 5] = [
-    (b"m1 end\n", b"s12 m1 end\n"),
-    (b"m1 end\nm2 end\n", b"s12 m1 end\ns12 m2 end\n"),
-    (b"m3", b"s12 m3"),
-    (b"", b""),
-    (b"\n", b"s12 \n"),
+/// The number of a stream; what is put without an end; two texts that are each put as one line; and what the out below then
+/// has.
+static SPELLED: [(u64, &[u8], [&[u8]; 2], &[u8]); 7] = [
+    // One line, two, a line without its end, no octet, and an end alone.
+    (12, b"", [b"m1 end\n", b""], b"s12 m1 end\n"),
+    (
+        12,
+        b"",
+        [b"m1 end\nm2 end\n", b""],
+        b"s12 m1 end\ns12 m2 end\n",
+    ),
+    (12, b"", [b"m3", b""], b"s12 m3"),
+    (12, b"", [b"", b""], b""),
+    (12, b"", [b"\n", b""], b"s12 \n"),
+    // The longest tag.
+    (
+        u64::MAX,
+        b"",
+        [b"m1 end\n", b""],
+        b"s18446744073709551615 m1 end\n",
+    ),
+    // The end of a line has no tag.
+    (
+        12,
+        b"m1 ",
+        [b"end\n", b"m2 end\n"],
+        b"s12 m1 end\ns12 m2 end\n",
+    ),
 ];
 
-#[test]
-fn a_spelled_line_has_its_tag(rt: HostRuntime) -> Result<(), Fail> {
-    for (text, want) in SPELLED {
-        let mut room = [0; 64];
-        let mut tagged = Tagged::new(Sheet::new(&mut room));
-        tagged.set_tag(stream_tag(12));
-        put_spelled(&mut tagged, text)?;
-        let sheet = tagged.into_out();
-        assert!(rt; sheet.held() == want);
+/// Whether texts that are put as lines have the tag of a stream.
+fn is_spelled(stream: u64, before: &[u8], lines: &[&[u8]], want: &[u8]) -> bool {
+    let mut room = [0; 64];
+    let mut tagged = tagged(stream, &mut room);
+    if put_all(&mut tagged, before).is_err() {
+        return false;
     }
-    Ok(())
+    for line in lines {
+        if put_spelled(&mut tagged, line).is_err() {
+            return false;
+        }
+    }
+    holds(tagged, want)
 }
 
 #[test]
-fn a_spelled_line_has_the_longest_tag(rt: HostRuntime) -> Result<(), Fail> {
-    let mut room = [0; 64];
-    let mut tagged = Tagged::new(Sheet::new(&mut room));
-    tagged.set_tag(stream_tag(u64::MAX));
-    put_spelled(&mut tagged, b"m1 end\n")?;
-    let sheet = tagged.into_out();
-    assert!(rt; sheet.held() == b"s18446744073709551615 m1 end\n".as_slice());
-    Ok(())
+fn a_spelled_line_has_its_tag(rt: HostRuntime) {
+    for (stream, before, lines, want) in &SPELLED {
+        let is_wanted = is_spelled(*stream, before, lines, want);
+        expect(&rt, is_wanted, str::from_utf8(want).unwrap_or(""));
+    }
 }
 
-#[test]
-fn a_spelled_line_behind_the_front_of_another_has_no_tag(rt: HostRuntime) -> Result<(), Fail> {
-    let mut room = [0; 64];
-    let mut tagged = Tagged::new(Sheet::new(&mut room));
-    tagged.set_tag(stream_tag(12));
-    put_all(&mut tagged, b"m1 ")?;
-    put_spelled(&mut tagged, b"end\n")?;
-    put_spelled(&mut tagged, b"m2 end\n")?;
-    let sheet = tagged.into_out();
-    assert!(rt; sheet.held() == b"s12 m1 end\ns12 m2 end\n".as_slice());
-    Ok(())
-}
-
-#[test]
-fn a_line_that_leaves_no_room_has_its_tag(rt: HostRuntime) -> Result<(), Fail> {
+/// Whether a line of so many octets, the last its end, has its tag.
+fn is_long_tagged(size: usize) -> bool {
     let mut text = [b'x'; 256];
     text[255] = b'\n';
-    for left in 0..8 {
-        let mut room = [0; 260];
-        let mut tagged = Tagged::new(Sheet::new(&mut room));
-        tagged.set_tag(stream_tag(12));
-        put_spelled(&mut tagged, &text[left..])?;
-        let sheet = tagged.into_out();
-        let held = sheet.held();
-        assert!(rt;
-            held.len() == 260 - left && held.starts_with(b"s12 x"),
-            "{left}"
-        );
+    let mut room = [0; 260];
+    let mut tagged = tagged(12, &mut room);
+    let (_, line) = text.split_at(256usize.saturating_sub(size));
+    if put_spelled(&mut tagged, line).is_err() {
+        return false;
     }
-    Ok(())
+    let sheet = tagged.into_out();
+    let held = sheet.held();
+    held.len() == size.saturating_add(4) && held.starts_with(b"s12 x")
+}
+
+#[test]
+fn a_line_that_leaves_no_room_has_its_tag(rt: HostRuntime) {
+    for size in 249..257 {
+        expect_at(&rt, is_long_tagged(size), size);
+    }
+}
+
+/// Whether an out with only this much room has a front of a spelled line.
+fn has_front_of_line(size: usize) -> bool {
+    let mut room = [0; 64];
+    let (front, _) = room.split_at_mut(size.min(64));
+    let mut tagged = tagged(12, front);
+    put_spelled(&mut tagged, b"m1 end\n").is_err()
+        && tagged.has_failed()
+        && !tagged.has_refused()
+        && holds(tagged, TAGGED.split_at(size.min(11)).0)
 }
 
 #[test]
 fn a_full_out_has_a_front_of_a_spelled_line(rt: HostRuntime) {
     for size in 1..11 {
-        let mut room = [0; 64];
-        let mut tagged = Tagged::new(Sheet::new(&mut room[..size]));
-        tagged.set_tag(stream_tag(12));
-        let is_written = put_spelled(&mut tagged, b"m1 end\n").is_ok();
-        assert!(rt;
-            !is_written && tagged.has_failed() && !tagged.is_full(),
-            "{size}"
-        );
-        let sheet = tagged.into_out();
-        assert!(rt; sheet.held() == &TAGGED[..size], "{size}");
+        expect_at(&rt, has_front_of_line(size), size);
     }
 }
 
-#[test]
-fn want_of_room_is_no_failure_of_the_out(rt: HostRuntime) -> Result<(), Fail> {
+/// Whether want of room is no failure of the out.
+fn is_refused() -> bool {
     let mut room = [0; 64];
     let mut tagged = Tagged::new(Sheet::new(&mut room));
-    put_all(&mut tagged, b"total\n")?;
-    assert!(rt; !tagged.has_failed() && !tagged.is_full());
+    let is_put = put_all(&mut tagged, b"total\n").is_ok();
+    let is_free = !tagged.has_failed() && !tagged.has_refused();
     let OutFault = tagged.refuse();
-    assert!(rt; tagged.has_failed() && tagged.is_full());
-    Ok(())
+    is_put && is_free && tagged.has_failed() && tagged.has_refused()
+}
+
+#[test]
+fn want_of_room_is_no_failure_of_the_out(rt: HostRuntime) {
+    assert!(&rt; is_refused());
 }

@@ -1,10 +1,11 @@
 //! Times and spans as text.
 
+use crate::expecting::expect;
 use giop_conversation::{put_span, put_time};
 use giop_print::Line;
 
 /// Times in nanoseconds since 1970-01-01 UTC. Their texts come from another implementation of the calendar.
-const TIMES: [(Option<u128>, &str); 8] = [
+static TIMES: [(Option<u128>, &str); 8] = [
     (None, "-"),
     (Some(0), "1970-01-01T00:00:00.000000000Z"),
     (
@@ -30,17 +31,22 @@ const TIMES: [(Option<u128>, &str); 8] = [
     (Some(253_402_300_800_000_000_000), "-"),
 ];
 
+/// Whether a time reads so.
+fn is_time(time: Option<u128>, want: &str) -> bool {
+    let mut line = Line::new();
+    put_time(&mut line, time);
+    line.text() == want.as_bytes()
+}
+
 #[test]
 fn a_time_is_a_date_of_the_calendar(rt: HostRuntime) {
-    for (time, want) in TIMES {
-        let mut line = Line::new();
-        put_time(&mut line, time);
-        assert!(rt; line.text() == want.as_bytes(), "{want}");
+    for (time, want) in &TIMES {
+        expect(&rt, is_time(*time, want), want);
     }
 }
 
 /// Two times, and the span from the first to the second.
-const SPANS: [(Option<u128>, Option<u128>, &str); 6] = [
+static SPANS: [(Option<u128>, Option<u128>, &str); 6] = [
     (Some(1_000_000_000), Some(1_000_228_123), "0.000228123"),
     (Some(7), Some(7), "0.000000000"),
     (Some(0), Some(61_000_000_000), "61.000000000"),
@@ -49,11 +55,16 @@ const SPANS: [(Option<u128>, Option<u128>, &str); 6] = [
     (Some(1), None, "-"),
 ];
 
+/// Whether the span between two times reads so.
+fn is_span(from: Option<u128>, to: Option<u128>, want: &str) -> bool {
+    let mut line = Line::new();
+    put_span(&mut line, from, to);
+    line.text() == want.as_bytes()
+}
+
 #[test]
 fn a_span_is_in_seconds(rt: HostRuntime) {
-    for (from, to, want) in SPANS {
-        let mut line = Line::new();
-        put_span(&mut line, from, to);
-        assert!(rt; line.text() == want.as_bytes(), "{want}");
+    for (from, to, want) in &SPANS {
+        expect(&rt, is_span(*from, *to, want), want);
     }
 }

@@ -2,12 +2,12 @@
 -- ends.
 use Rattle.std.proofs.Common.{◌≡◌, ℕ, zero, suc, ◌-◌, ◌<◌, ◌≤◌, List, [], ◌∷◌, ◌++◌, refl, ap, arith, add-zero, lt-ltb}
 use Rattle.giop_decode.specs.Begins.{start_leaf, start_outer}
-use Rattle.giop_decode.specs.Fits.{HasParts, Surrounds}
+use Rattle.giop_decode.specs.Fits.{HasParts, AllHoldOffset}
 use Rattle.giop_decode.specs.Pieces.{Partial, block}
 use Rattle.giop_decode.specs.Reading.{enclosed, led_segment, none_left, parts_from, read}
 use Rattle.giop_decode.specs.ReadResult.{Coding, Done, Fault, Index, Leaf, ValueAt, Member, Name, Part, OpenPart, Read, PathSegment, Short, with_front, within, Held, Inside, Telling}
-use Rattle.giop_decode.specs.ReadingSteps.{inner_path, around, part_at, path_in, resumed, segment_in, segment_of, coding_at, coding_in, after_told, heard_parts, IsRule}
-use Rattle.giop_sig.specs.Hearings.{hearing_in}
+use Rattle.giop_decode.specs.ReadingSteps.{inner_path, resume_outer, part_at, path_in, resume_part, segment_in, segment_of, coding_at, coding_in, after_told, parts_after_lines, BreaksRule}
+use Rattle.giop_sig.specs.Hearings.{inference_in}
 use Rattle.giop_decode.specs.declared.progress.ValueFault.{ValueFault}
 use Rattle.giop_decode.specs.declared.progress.ValueFault.TheVariants as kinds
 use Rattle.giop_sig.specs.Fits.{IsFit}
@@ -17,12 +17,13 @@ use Rattle.giop_decode.proofs.Enclosing.{with_front-enclosed}
 
 pub around-append : (coding : Coding) (path : List PathSegment) (outer : List OpenPart)
     (place : OpenPart)
-    (r : Read) → around coding path (outer ++ place ∷ []) r
-    ≡ around coding path outer (resumed (coding_in coding outer) (path_in path outer) place r)
+    (r : Read) → resume_outer coding path (outer ++ place ∷ []) r
+    ≡ resume_outer coding path outer (resume_part (coding_in coding outer) (path_in path outer)
+    place r)
 around-append coding path [] place r = refl
 around-append coding path (p ∷ outer) place r =
-    ap (resumed coding path p) (around-append (coding_at coding p) (path ++ segment_in p ∷ []) outer
-    place r)
+    ap (resume_part coding path p) (around-append (coding_at coding p) (path ++ segment_in p ∷ [])
+    outer place r)
 
 pub path_in-append : (path : List PathSegment) (outer : List OpenPart) (place : OpenPart) →
     path_in path (outer ++ place ∷ []) ≡ path_in path outer ++ segment_in place ∷ []
@@ -31,9 +32,9 @@ path_in-append path (p ∷ outer) place = path_in-append (path ++ segment_in p �
 
 pub around-short : (coding : Coding) (path : List PathSegment) (outer : List OpenPart)
     (lines : List ValueAt)
-    (at : ℕ) (inner : List OpenPart) (leaf : Leaf) → Surrounds at outer →
-    around coding path outer (Short lines at inner leaf)
-    ≡ Short lines at (heard_parts lines outer ++ inner) leaf
+    (at : ℕ) (inner : List OpenPart) (leaf : Leaf) → AllHoldOffset at outer →
+    resume_outer coding path outer (Short lines at inner leaf)
+    ≡ Short lines at (parts_after_lines lines outer ++ inner) leaf
 around-short coding path [] lines at inner leaf h = refl
 around-short coding path (Part T i count ∷ outer) lines at inner leaf h =
     rw (around-short coding (path ++ segment_of T i ∷ []) outer lines at inner leaf h.1) refl
@@ -48,22 +49,22 @@ around-short coding path (Telling T told ∷ outer) lines at inner leaf h =
     rw (around-short coding (path ++ segment_of T 0 ∷ []) outer lines at inner leaf h.1) refl
 
 -- if there are no lines, the open parts hear nothing and stay the same
-pub heard_none : (outer : List OpenPart) → heard_parts [] outer ≡ outer
+pub heard_none : (outer : List OpenPart) → parts_after_lines [] outer ≡ outer
 heard_none [] = refl
 heard_none (Telling T told ∷ outer) = ap (λ ps. Telling T told ∷ ps) (heard_none outer)
 heard_none (place ∷ outer) = ap (λ ps. place ∷ ps) (heard_none outer)
 
 enclosed_fault : (path : List PathSegment) (T : Ty) (inner : Coding) (end : ℕ) (lines : List
     ValueAt)
-    (at : ℕ) (kind : ValueFault) (S : Ty) → IsRule kind →
+    (at : ℕ) (kind : ValueFault) (S : Ty) → BreaksRule kind →
     enclosed path T inner end none_left (Fault lines at kind S) [] ≡ Fault lines at kind S
 enclosed_fault path T inner end lines at kinds.Untyped S rule = absurd rule
 enclosed_fault path T inner end lines at kind S rule = refl
 
 pub around-fault : (coding : Coding) (path : List PathSegment) (outer : List OpenPart)
     (lines : List ValueAt)
-    (at : ℕ) (kind : ValueFault) (S : Ty) → IsRule kind →
-    around coding path outer (Fault lines at kind S) ≡ Fault lines at kind S
+    (at : ℕ) (kind : ValueFault) (S : Ty) → BreaksRule kind →
+    resume_outer coding path outer (Fault lines at kind S) ≡ Fault lines at kind S
 around-fault coding path [] lines at kind S rule = refl
 around-fault coding path (Part T i count ∷ outer) lines at kind S rule =
     rw (around-fault coding (path ++ segment_of T i ∷ []) outer lines at kind S rule) refl
@@ -77,11 +78,12 @@ around-fault coding path (Telling T told ∷ outer) lines at kind S rule =
 
 pub around-front : (coding : Coding) (path : List PathSegment) (outer : List OpenPart)
     (front : List ValueAt)
-    (r : Read) → around coding path outer (with_front front r)
-    ≡ with_front front (around coding path (heard_parts front outer) r)
+    (r : Read) → resume_outer coding path outer (with_front front r)
+    ≡ with_front front (resume_outer coding path (parts_after_lines front outer) r)
 around-front coding path [] front r = refl
 around-front coding path (Part T i count ∷ outer) front r =
-    let inner = around coding (path ++ segment_of T i ∷ []) (heard_parts front outer) r in
+    let inner = resume_outer coding (path ++ segment_of T i ∷ []) (parts_after_lines front outer) r
+    in
     let next = parts_from (part_at coding path T count) (count - suc i) (suc i) in
     rw (
       around-front coding (path ++ segment_of T i ∷ []) outer front r,
@@ -90,16 +92,16 @@ around-front coding path (Part T i count ∷ outer) front r =
     (with_front-followed front (within (Part T i count) inner) next)
 around-front coding path (Member T i ∷ outer) front r =
     rw (around-front coding (path ++ segment_of T i ∷ []) outer front r)
-    (with_front-within front (Member T i) (around coding (path ++ segment_of T i ∷ [])
-    (heard_parts front outer) r))
+    (with_front-within front (Member T i) (resume_outer coding (path ++ segment_of T i ∷ [])
+    (parts_after_lines front outer) r))
 around-front coding path (Inside T c end ∷ outer) front r =
     rw (around-front c (path ++ Held ∷ []) outer front r)
     (with_front-enclosed front path T c end none_left
-    (around c (path ++ Held ∷ []) (heard_parts front outer) r) [])
+    (resume_outer c (path ++ Held ∷ []) (parts_after_lines front outer) r) [])
 around-front coding path (Telling T told ∷ outer) front r =
     rw (around-front coding (path ++ segment_of T 0 ∷ []) outer front r)
-    (with_front-led front T (hearing_in T) told (after_told coding path T)
-    (around coding (path ++ segment_of T 0 ∷ []) (heard_parts front outer) r))
+    (with_front-led front T (inference_in T) told (after_told coding path T)
+    (resume_outer coding (path ++ segment_of T 0 ∷ []) (parts_after_lines front outer) r))
 
 -- What readings are before their first octet.
 pub block_none : (n at : ℕ) → 0 < n → block n at [] ≡ Partial [] at
@@ -151,7 +153,7 @@ fit_part d T i count fit kind below = absurd kind
 
 pub next_part : (coding : Coding) (path : List PathSegment) (d : ℕ) (T : Ty) (i count at : ℕ) →
     IsFit (suc d) T → HasParts T count → suc i < count →
-    resumed coding path (Part T i count) (Done [] at [])
+    resume_part coding path (Part T i count) (Done [] at [])
     ≡ Short [] at (Part T (suc i) count ∷ start_outer (part_of T (suc i)))
     (start_leaf (part_of T (suc i)))
 next_part coding path d T i count at fit kind below = go (count - suc i) refl
@@ -168,7 +170,7 @@ next_part coding path d T i count at fit kind below = go (count - suc i) refl
 
 pub last_part : (coding : Coding) (path : List PathSegment) (T : Ty) (i count at : ℕ) →
     count ≤ suc i →
-    resumed coding path (Part T i count) (Done [] at []) ≡ Done [] at []
+    resume_part coding path (Part T i count) (Done [] at []) ≡ Done [] at []
 last_part coding path T i count at h = search (arith)
 
 -- no type fits into depth 0

@@ -3,7 +3,7 @@ use Rattle.std.proofs.Common.{◌≡◌, ℕ, zero, suc, pred, ◌-◌, ◌<◌,
 use Rattle.std.specs.List.{AllByRecursion}
 use Rattle.giop_decode.specs.ReadResult.{OpenPart}
 use Rattle.giop_decode.specs.Begins.{start_outer, start_leaf}
-use Rattle.giop_decode.specs.Transitions.{IsWhole, IsWithinAs, open_part, part_as, parts_in_room, tree_in}
+use Rattle.giop_decode.specs.Transitions.{StartsWithPart, FrameIndexFitsAs, open_part, part_as, parts_in_room, tree_in}
 use Rattle.giop_decode.specs.declared.frame.Frame.{Frame}
 use Rattle.giop_decode.specs.declared.frame.Stage.{Stage}
 use Rattle.giop_sig.specs.Types.{Ty, Struct, Array, Led, part_of, shape_in, HasIndex}
@@ -11,7 +11,7 @@ use Rattle.giop_sig.specs.Fits.{IsFit}
 use Rattle.giop_sig.specs.Table.{Table}
 use Rattle.giop_sig.specs.Trees.{tree_at}
 
-pub record Begins (d : ℕ) (T : Ty) (count : ℕ) (told : Option Stage) : Type 0 where
+pub record FitsAtFirstPart (d : ℕ) (T : Ty) (count : ℕ) (told : Option Stage) : Type 0 where
   pub room : 0 < d
   pub outer : (here : ℕ) → start_outer T ≡ part_as told here None T 0 count ∷ start_outer (part_of T
       0)
@@ -21,7 +21,7 @@ pub record Begins (d : ℕ) (T : Ty) (count : ℕ) (told : Option Stage) : Type 
   pub some : told ≡ None → 0 < count
 
 pub begins : (d : ℕ) (T : Ty) (count : ℕ) (told : Option Stage) → IsFit d T →
-    IsWhole T count told → Begins d T count told
+    StartsWithPart T count told → FitsAtFirstPart d T count told
 unfolding IsFit
 begins zero T count told fit is = absurd fit
 begins (suc d) (Struct n names parts) count told fit is = rw (is.0, is.1) (record {
@@ -79,7 +79,7 @@ part_in_frames C old new of part i more few parts =
 
 -- a type that begins with a part of its own can be at that part
 pub whole_within : (T : Ty) (count : ℕ) (told : Option Stage) → (told ≡ None → 0 < count) →
-    IsWhole T count told → IsWithinAs told None 0 count T
+    StartsWithPart T count told → FrameIndexFitsAs told None 0 count T
 whole_within (Struct n names parts) count None some is =
     (rw is.0 at (some refl), λ kind. kind, λ is. absurd is)
 whole_within (Struct n names parts) count (Some stage) some is = let e = is.1 in absurd cc
@@ -90,14 +90,14 @@ whole_within (Led h F parts) count None some is = let e = is.1 in absurd cc
 whole_within T count told some is = absurd is
 
 pub whole_placed : (T : Ty) (count : ℕ) (told : Option Stage) → (told ≡ None → 0 < count) →
-    IsWhole T count told → HasIndex (shape_in T) 0
+    StartsWithPart T count told → HasIndex (shape_in T) 0
 whole_placed (Struct n names parts) count told some is = rw is.0 at (some is.1)
 whole_placed (Array n E) count told some is = tt
 whole_placed (Led h F parts) count told some is = tt
 whole_placed T count told some is = absurd is
 
 pub begins_places : (d here : ℕ) (ps : List OpenPart) (T : Ty) (count : ℕ) (told : Option Stage) →
-    Begins d T count told →
+    FitsAtFirstPart d T count told →
     (ps ++ part_as told here None T 0 count ∷ []) ++ start_outer (part_of T 0) ≡ ps ++ start_outer T
 begins_places d here ps T count told b =
     append_assoc ps (part_as told here None T 0 count ∷ []) (start_outer (part_of T 0))

@@ -10,7 +10,7 @@ use Rattle.giop_decode.proofs.Going.{length_places}
 use Rattle.giop_decode.proofs.StoredChain.{fits_few}
 use Rattle.giop_sig.proofs.PartLaws.{depth_is}
 use Rattle.giop_sig.proofs.Unled.{HasNoLed, room_none}
-use Rattle.giop_sig.specs.HeaderTypes.{ArePlain, IsTable}
+use Rattle.giop_sig.specs.HeaderTypes.{AreBeforeVersion3, IsTable}
 use Rattle.giop_sig.specs.Table.{Table}
 use Rattle.giop_sig.specs.Trees.{catalogue_depth, depth_of, tree}
 use Rattle.giop_sig.specs.Types.{Encapsulation, case_count, Ty, Struct, Union, Sequence, Array, part_of, depth, most, Led, Recursive}
@@ -81,7 +81,7 @@ fits_shallow (Telling U told ∷ ps) T leaf none fits = search
 fits_shallow (Inside U coding end ∷ ps) T leaf none fits = search
     (arith, fits_shallow ps (part_of T 0) leaf (case_none T 0 none) fits.1, inside_shallower)
 
-plain_depth : (C : Table) (d : Decoder) → ArePlain C.types → Fits C d
+plain_depth : (C : Table) (d : Decoder) → AreBeforeVersion3 C.types → Fits C d
     → length d.outer.items < depth_of C.types
 plain_depth C d plain h =
     omega (

@@ -2,7 +2,7 @@
 use Rattle.std.proofs.Common.{◌≡◌, ℕ, suc, subst, pred, true, false, Bool, Option, Some, None, ◌+◌, ◌-◌, ◌<◌, ◌≤◌, List, [], ◌∷◌, ◌++◌, length, get_or, drop, refl, ap, ◌∙◌, sym, append_assoc, append-nil, length-append, codes, decimal, arith}
 use Rattle.std.proofs.lemmas.Bool.{false≢true}
 use Rattle.std.proofs.lemmas.List.{drop_more}
-use Rattle.giop_decode.specs.Segments.{IsSwitch, end_segments, end_text, frame_text, frames_text}
+use Rattle.giop_decode.specs.Segments.{IsUnionOrNone, discriminator_segments, discriminator_text, frame_text, frames_text}
 use Rattle.giop_decode.specs.ReadResult.{PathSegment}
 use Rattle.giop_decode.specs.Spelling.{segment_text, segments_text, path_text}
 use Rattle.giop_decode.specs.ReadingSteps.{segment_in, path_in}
@@ -51,12 +51,12 @@ frames_spelled C room path (f ∷ outer) =
     (segment_anywhere C room 24 0 0 f))
 
 -- a discriminator has the same segment inside these frames as at the root
-abbrev SameSwitch : Table → List Frame → Option TypeId → Type 0
+abbrev SameSwitch : (C : Table) (outer : List Frame) (of : Option TypeId) → Type 0
 SameSwitch C outer None = Unit {0}
 SameSwitch C outer (Some of) = switch_segment (tree_in C outer of.0) ≡ switch_segment (tree C of.0)
 
 pub same_switch : (C : Table) (outer : List Frame) (switch : Option TypeId) → IsTable C →
-    length outer < 24 → IsSwitch C switch → SameSwitch C outer switch
+    length outer < 24 → IsUnionOrNone C switch → SameSwitch C outer switch
 same_switch C outer None laws few is = tt
 same_switch C outer (Some of) laws few is =
     let one : suc (23 - length outer) ≡ 24 - length outer = omega (arith, few) in
@@ -65,15 +65,17 @@ same_switch C outer (Some of) laws few is =
 
 ends_spelled : (C : Table) (path : List PathSegment) (outer : List Frame)
     (switch : Option TypeId) → SameSwitch C outer switch →
-    segments_text (path ++ end_segments C outer switch) ≡ segments_text path ++ end_text C switch
+    segments_text (path ++ discriminator_segments C outer switch) ≡ segments_text path
+    ++ discriminator_text C switch
 ends_spelled C path outer None same = search (arith, append-nil)
 ends_spelled C path outer (Some of) same =
     segments_text-append path (switch_segment (tree_in C outer of.0))
     ∙ ap (λ s. segments_text path ++ segment_text s) same
 
 pub here_spelled : (C : Table) (root : Root) (outer : List Frame) (switch : Option TypeId) →
-    SameSwitch C outer switch → root_word root ++ (frames_text C outer ++ end_text C switch)
-    ≡ path_text root (path_in [] (open_parts C 0 outer) ++ end_segments C outer switch)
+    SameSwitch C outer switch → root_word root ++ (frames_text C outer
+    ++ discriminator_text C switch)
+    ≡ path_text root (path_in [] (open_parts C 0 outer) ++ discriminator_segments C outer switch)
 unfolding path_text
 here_spelled C root outer switch same = search (arith, ends_spelled, frames_spelled)
 
@@ -105,16 +107,19 @@ spells_more w a b c end more text e r s =
 -- a line with room for a whole path has spelled all of it
 pub spells_here : (message : ℕ) (C : Table) (root : Root) (outer : List Frame)
     (switch : Option TypeId) (w : Bool)
-    (a b c d : Line) → SameSwitch C outer switch → line_text b ≡ end_text C switch ++ line_text a →
-    line_room b + length (end_text C switch) ≡ line_room a → Spells w b c (frames_text C outer) →
+    (a b c d : Line) → SameSwitch C outer switch → line_text b ≡ discriminator_text C switch
+    ++ line_text a →
+    line_room b + length (discriminator_text C switch) ≡ line_room a →
+    Spells w b c (frames_text C outer) →
     w ≡ true → line_text d ≡ headed message (root_word root) [] ++ line_text c →
     line_room d + length (headed message (root_word root) []) ≡ line_room c →
     Spells true a d (headed message
-    (path_text root (path_in [] (open_parts C 0 outer) ++ end_segments C outer switch)) [])
+    (path_text root (path_in [] (open_parts C 0 outer) ++ discriminator_segments C outer switch))
+    [])
 spells_here message C root outer switch w a b c d same be br s whole de dr =
     let head = headed message (root_word root) [] in
     let frames = frames_text C outer in
-    let end = end_text C switch in
+    let end = discriminator_text C switch in
     let front : s.front ≡ frames = s.all whole in
     let c_text : line_text c ≡ frames ++ line_text b = rw front at s.spelled in
     let c_room : line_room c + length frames ≡ line_room b = rw front at s.room in
@@ -136,7 +141,7 @@ spells_here message C root outer switch w a b c d same be br s whole de dr =
           ∙ ap (λ t. codes "m" ++ (decimal message ++ (codes " " ++ t)))
           (here_spelled C root outer switch same
           ∙ sym (append-nil (path_text root (path_in [] (open_parts C 0 outer)
-          ++ end_segments C outer switch))));
+          ++ discriminator_segments C outer switch))));
     }
 
 -- the text of the frames grows by one segment a frame, from the innermost frame on

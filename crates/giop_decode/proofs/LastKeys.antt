@@ -5,7 +5,7 @@ use Rattle.std.specs.Prelude.{cond}
 use Rattle.std.specs.List.{cons_option}
 use Rattle.std.proofs.lemmas.List.Elements.{filter_map-append}
 use Rattle.giop_cdr.specs.declared.prim.Primitive.TheVariants as prims
-use Rattle.giop_decode.specs.Noted.{Noted, is_key_path, key_ended, may_have_key, note, noted, nothing_noted, with_key_piece}
+use Rattle.giop_decode.specs.Noted.{Noted, is_key_path, with_key_ended, may_have_key, note_line, note_lines, nothing_noted, with_key_piece}
 use Rattle.giop_decode.specs.NotedFromLines.{TextPiece, enum_of, enums, key_piece, key_pieces, last_content, piece, text_of, text_pieces}
 use Rattle.giop_decode.specs.ReadResult.{PathSegment, Value, Number, Piece, ValueAt, line}
 use Rattle.giop_decode.proofs.Resuming.{noted-append}
@@ -29,7 +29,7 @@ piece_kept false h k p none = refl
 -- A line that is neither an enum nor a piece of a key leaves the noted key as it is.
 value_kept : (is_header : Bool) (h : Noted) (at : ℕ) (path : List PathSegment) (value : Value) →
     enum_of value ≡ None → key_piece is_header (line at path value) ≡ None →
-    (note is_header h (line at path value)).key ≡ h.key
+    (note_line is_header h (line at path value)).key ≡ h.key
 value_kept is_header h at path (Number (Plain prims.ULong) n) quiet other = refl
 value_kept is_header h at path (Number (Enum count names) n) quiet other = absurd cc
 value_kept is_header h at path (Piece (Text bound) offset octets true) quiet other = refl
@@ -39,10 +39,10 @@ value_kept is_header h at path (Piece (Octets (Raw bound)) offset octets more) q
 value_kept is_header h at path value quiet other = refl
 
 key_kept : (is_header : Bool) (h : Noted) (lines : List ValueAt) → enums lines ≡ [] →
-    key_pieces is_header lines ≡ [] → (noted is_header h lines).key ≡ h.key
+    key_pieces is_header lines ≡ [] → (note_lines is_header h lines).key ≡ h.key
 key_kept is_header h [] quiet other = refl
 key_kept is_header h (l ∷ ls) quiet other =
-    key_kept is_header (note is_header h l) ls (none_later (enum_of l.value) (enums ls) quiet)
+    key_kept is_header (note_line is_header h l) ls (none_later (enum_of l.value) (enums ls) quiet)
     (none_later (key_piece is_header l) (key_pieces is_header ls) other)
     ∙ value_kept is_header h l.at l.path l.value (none_first (enum_of l.value) (enums ls) quiet)
     (none_first (key_piece is_header l) (key_pieces is_header ls) other)
@@ -50,28 +50,28 @@ key_kept is_header h (l ∷ ls) quiet other =
 -- ---- lines up to the key
 
 -- neither a string nor an enum was noted
-record IsClean (h : Noted) : Type 0 where
+record HasNoStringOrEnum (h : Noted) : Type 0 where
   name : h.name ≡ None
   so_far : h.so_far ≡ []
   status : h.status ≡ None
 
 -- a line that is neither a string nor an enum notes neither, and notes at most a piece of a key
-record Goes (h k : Noted) (p : Option TextPiece) : Type 0 where
-  clean : IsClean k
+record NotesOnlyKey (h k : Noted) (p : Option TextPiece) : Type 0 where
+  clean : HasNoStringOrEnum k
   key : (ps : List TextPiece) → last_content k.key k.key_so_far ps
       ≡ last_content h.key h.key_so_far (cons_option p ps)
 
 -- the key doesn't depend on the request id, nor on whether a reply is expected
-same_goes : (h : Noted) (id : Option ℕ) (expects : Option Bool) → IsClean h →
-    Goes h (record h { request_id = id; expects_reply = expects }) None
+same_goes : (h : Noted) (id : Option ℕ) (expects : Option Bool) → HasNoStringOrEnum h →
+    NotesOnlyKey h (record h { request_id = id; expects_reply = expects }) None
 same_goes h id expects clean = record {
   clean = record { name = clean.name; so_far = clean.so_far; status = clean.status };
   key = λ ps. refl;
 }
 
-piece_goes : (is_key may more : Bool) (h : Noted) (offset : ℕ) (octets : List ℕ) → IsClean h →
-    may ≡ true → Goes h (cond is_key
-    (cond may (cond more (with_key_piece h octets) (key_ended (with_key_piece h octets))) h) h)
+piece_goes : (is_key may more : Bool) (h : Noted) (offset : ℕ) (octets : List ℕ) →
+    HasNoStringOrEnum h → may ≡ true → NotesOnlyKey h (cond is_key
+    (cond may (cond more (with_key_piece h octets) (with_key_ended (with_key_piece h octets))) h) h)
     (cond is_key (Some (piece offset octets more)) None)
 piece_goes false may more h offset octets clean goes =
     same_goes h h.request_id h.expects_reply clean
@@ -85,12 +85,13 @@ piece_goes true true false h offset octets clean goes = record {
   key = λ ps. refl;
 }
 
-may_go : (h : Noted) → IsClean h → may_have_key h ≡ true
+may_go : (h : Noted) → HasNoStringOrEnum h → may_have_key h ≡ true
 may_go h clean = rw (clean.name, clean.so_far, clean.status) refl
 
 value_goes : (is_header : Bool) (h : Noted) (at : ℕ) (path : List PathSegment) (value : Value) →
-    IsClean h → enum_of value ≡ None → text_of value ≡ None →
-    Goes h (note is_header h (line at path value)) (key_piece is_header (line at path value))
+    HasNoStringOrEnum h → enum_of value ≡ None → text_of value ≡ None →
+    NotesOnlyKey h (note_line is_header h (line at path value))
+    (key_piece is_header (line at path value))
 value_goes is_header h at path (Number (Plain prims.ULong) n) clean quiet silent =
     same_goes h _ _ clean
 value_goes is_header h at path (Number (Enum count names) n) clean quiet silent = absurd cc
@@ -100,15 +101,15 @@ value_goes is_header h at path (Piece (Octets (Raw bound)) offset octets more) c
     piece_goes (is_header && is_key_path path) _ more h offset octets clean (may_go h clean)
 value_goes is_header h at path value clean quiet silent = same_goes h _ _ clean
 
-left_front : (is_header : Bool) (h : Noted) (lines : List ValueAt) → IsClean h → enums lines ≡ [] →
-    text_pieces lines ≡ [] → (noted is_header h lines).key
+left_front : (is_header : Bool) (h : Noted) (lines : List ValueAt) → HasNoStringOrEnum h →
+    enums lines ≡ [] → text_pieces lines ≡ [] → (note_lines is_header h lines).key
     ≡ last_content h.key h.key_so_far (key_pieces is_header lines)
 left_front is_header h [] clean quiet silent = refl
 left_front is_header h (l ∷ ls) clean quiet silent =
     let g = value_goes is_header h l.at l.path l.value clean
     (none_first (enum_of l.value) (enums ls) quiet)
     (none_first (text_of l.value) (text_pieces ls) silent) in
-    left_front is_header (note is_header h l) ls g.clean
+    left_front is_header (note_line is_header h l) ls g.clean
     (none_later (enum_of l.value) (enums ls) quiet)
     (none_later (text_of l.value) (text_pieces ls) silent)
     ∙ g.key (key_pieces is_header ls)
@@ -121,12 +122,14 @@ both_none (x ∷ xs) ys e = absurd cc
 
 pub left_key : (is_header : Bool) (lines front back : List ValueAt) → lines ≡ front ++ back →
     enums lines ≡ [] → text_pieces front ≡ [] → key_pieces is_header back ≡ [] →
-    (noted is_header nothing_noted lines).key ≡ last_content None [] (key_pieces is_header front)
+    (note_lines is_header nothing_noted lines).key
+    ≡ last_content None [] (key_pieces is_header front)
 left_key is_header lines front back are quiet silent other =
-    let clean : IsClean nothing_noted = record { name = refl; so_far = refl; status = refl } in
+    let clean : HasNoStringOrEnum nothing_noted =
+    record { name = refl; so_far = refl; status = refl } in
     let none = both_none (enums front) (enums back)
     (sym (filter_map-append (λ l. enum_of l.value) front back) ∙ (ap enums (sym are) ∙ quiet)) in
-    ap (λ ls. (noted is_header nothing_noted ls).key) are
+    ap (λ ls. (note_lines is_header nothing_noted ls).key) are
     ∙ (ap (λ k. k.key) (noted-append is_header nothing_noted front back)
-    ∙ (key_kept is_header (noted is_header nothing_noted front) back none.1 other
+    ∙ (key_kept is_header (note_lines is_header nothing_noted front) back none.1 other
     ∙ left_front is_header nothing_noted front clean none.0 silent))

@@ -1,21 +1,21 @@
 -- What fits inside a type, and what one more octet leaves of it.
 use Rattle.std.proofs.Common.{◌≡◌, ℕ, zero, suc, ◌+◌, ◌-◌, ◌<◌, ◌≤◌, List, [], ◌∷◌, ◌++◌, length, refl, subst, arith, add-zero, lt-ltb, le-ltb}
 use Rattle.std.proofs.lemmas.Bool.{cases_lt}
-use Rattle.giop_decode.specs.Fits.{leaf_ty, Sound, FitsIn, HasCase, HasContent, HasLeadingNumber, IsOpen, OpenFrom, IsEncapsulation, Surrounds, IsLed}
-use Rattle.giop_decode.specs.Pieces.{Complete, Block, Partial, tail}
-use Rattle.giop_decode.specs.Reading.{parts_from, enclosed, order_of, ordered, none_left}
+use Rattle.giop_decode.specs.Fits.{leaf_ty, IsSoundReading, FitsIn, HasCase, HasContent, HasLeadingNumber, OpenPartFits, OpenPartsFit, IsEncapsulation, AllHoldOffset, IsLed}
+use Rattle.giop_decode.specs.Pieces.{Complete, Block, Partial, terminator_size}
+use Rattle.giop_decode.specs.Reading.{parts_from, enclosed, order_of, after_order_octet, none_left}
 use Rattle.giop_decode.specs.ReadResult.{Coding, Content, LeadingNumber, Leaf, Member, Part, OpenPart, PathSegment, Held, Inside, Opening, Telling}
-use Rattle.giop_decode.specs.ReadingSteps.{block_step, content_step, leading_width, leaf_step, number_step, part_at, segment_of, step, held}
+use Rattle.giop_decode.specs.ReadingSteps.{block_step, content_step, leading_width, leaf_step, number_step, part_at, segment_of, step, encapsulated_value}
 use Rattle.giop_sig.specs.Fits.{IsFit}
 use Rattle.giop_sig.specs.Types.{Encapsulation, Led, Ty, Union, part_of}
-use Rattle.giop_decode.proofs.Law.{headed_by, block_step_waits, block_step_got, number_step_pads, number_step_blocks, padding_or, length_one_more}
+use Rattle.giop_decode.proofs.Law.{read_after_leading_number, block_step_waits, block_step_got, number_step_pads, number_step_blocks, padding_or, length_one_more}
 use Rattle.giop_decode.proofs.Around.{fit_none, fit_part}
 use Rattle.giop_decode.proofs.OctetResults.{step_now}
-use Rattle.giop_decode.proofs.Sound.{Takes, begun_later, now_leaves, sound_led, ordered_sound, sound_enclosed, sound_followed, sound_part, sound_member, parts_keep, after_keeps, read_keeps, full_piece_sound, last_piece_sound, content_keeps}
+use Rattle.giop_decode.proofs.Sound.{BlockFits, begun_later, now_leaves, sound_led, ordered_sound, sound_enclosed, sound_followed, sound_part, sound_member, parts_keep, after_keeps, read_keeps, full_piece_sound, last_piece_sound, content_keeps}
 
 -- the leaf, and how much depth is left for it
-pub record LeafAt (d : ℕ) (outer : List OpenPart) (leaf : Leaf) : Type 0 where
-  pub are_open : OpenFrom d outer
+pub record LeafHasDepth (d : ℕ) (outer : List OpenPart) (leaf : Leaf) : Type 0 where
+  pub are_open : OpenPartsFit d outer
   pub left : ℕ
   pub depth : d ≡ length outer + left
   pub fit : IsFit left (leaf_ty leaf)
@@ -38,8 +38,9 @@ unfolding IsFit
 fit_held d (Encapsulation T) fit kind = fit
 fit_held d T fit kind = absurd kind
 
-deeper : (d : ℕ) (place : OpenPart) (outer : List OpenPart) (leaf : Leaf) → IsOpen (suc d) place →
-    LeafAt d outer leaf → LeafAt (suc d) (place ∷ outer) leaf
+deeper : (d : ℕ) (place : OpenPart) (outer : List OpenPart) (leaf : Leaf) →
+    OpenPartFits (suc d) place → LeafHasDepth d outer leaf →
+    LeafHasDepth (suc d) (place ∷ outer) leaf
 deeper d place outer leaf is l = search (arith)
 
 leaf_same : (T : Ty) (leaf : Leaf) → FitsIn T [] leaf → leaf_ty leaf ≡ T
@@ -49,7 +50,7 @@ leaf_same T leaf fits = fits.same
 -- If a leaf fits inside a type of at most d levels, its own type fits in the levels that the parts
 -- around it leave.
 pub leaf_at : (d : ℕ) (T : Ty) (outer : List OpenPart) (leaf : Leaf) → FitsIn T outer leaf →
-    IsFit d T → LeafAt d outer leaf
+    IsFit d T → LeafHasDepth d outer leaf
 unfolding IsFit
 leaf_at d T [] leaf fits fit = search (arith, leaf_same)
 leaf_at zero T (Part U i count ∷ outer) leaf fits fit = absurd fit
@@ -72,7 +73,7 @@ leaf_at (suc d) T (Telling U told ∷ outer) leaf fits fit =
 -- one more octet
 
 block_step_takes : (n at : ℕ) (held : List ℕ) (b : ℕ) → length held < n →
-    Takes n (at + 1) (block_step n at held b)
+    BlockFits n (at + 1) (block_step n at held b)
 block_step_takes n at held b room = search (
   arith,
   cases_lt,
@@ -82,7 +83,7 @@ block_step_takes n at held b room = search (
 )
 
 number_step_takes : (phase : ℕ → ℕ) (n at : ℕ) (carry : List ℕ) (b : ℕ) → length carry < n →
-    Takes n (at + 1) (number_step phase n at carry b)
+    BlockFits n (at + 1) (number_step phase n at carry b)
 number_step_takes phase n at [] b room = search (
   arith,
   padding_or,
@@ -93,16 +94,16 @@ number_step_takes phase n at [] b room = search (
 number_step_takes phase n at (x ∷ xs) b room = search (arith, number_step_blocks, block_step_takes)
 
 headed_sound : (d : ℕ) (coding : Coding) (path : List PathSegment) (T : Ty) (end : ℕ) → IsFit d T →
-    HasLeadingNumber T → (g : Block) → Takes (leading_width T) end g →
-    Sound T end (headed_by coding path T g)
+    HasLeadingNumber T → (g : Block) → BlockFits (leading_width T) end g →
+    IsSoundReading T end (read_after_leading_number coding path T g)
 headed_sound d coding path T end fit kind (Partial carry at) h = search (arith)
 headed_sound d coding path T end fit kind (Complete xs at rest) h = search (arith, after_keeps)
 
 content_step_sound : (T : Ty) (path : List PathSegment) (total offset at : ℕ) (piece : List ℕ)
     (b : ℕ) →
     HasContent T → offset ≤ total → (32 < total - offset → length piece < 32) →
-    (total - offset ≤ 32 → length piece < total - offset + tail T) →
-    Sound T (at + 1) (content_step T path total offset at piece b)
+    (total - offset ≤ 32 → length piece < total - offset + terminator_size T) →
+    IsSoundReading T (at + 1) (content_step T path total offset at piece b)
 content_step_sound T path total offset at piece b kind ahead room_full room_last = search (
   arith,
   cases_lt,
@@ -116,7 +117,7 @@ content_step_sound T path total offset at piece b kind ahead room_full room_last
 
 leaf_step_sound : (d : ℕ) (coding : Coding) (path : List PathSegment) (T : Ty) (leaf : Leaf)
     (at b : ℕ) →
-    IsFit d T → FitsIn T [] leaf → Sound T (at + 1) (leaf_step coding path leaf at b)
+    IsFit d T → FitsIn T [] leaf → IsSoundReading T (at + 1) (leaf_step coding path leaf at b)
 leaf_step_sound d coding path T (LeadingNumber U carry) at b fit fits = search (
   arith,
   headed_sound,
@@ -125,8 +126,8 @@ leaf_step_sound d coding path T (LeadingNumber U carry) at b fit fits = search (
 leaf_step_sound zero coding path T (Opening U n) at b fit fits = absurd (fit_none T fit)
 leaf_step_sound (suc d) coding path T (Opening U n) at b fit fits =
     rw (fits.same, block_step_got 1 at [] b (omega arith))
-    (subst (λ m. Sound T m (ordered path T (held path T) at n (order_of b) (at + 1) []))
-    (add-zero (at + 1))
+    (subst (λ m. IsSoundReading T m (after_order_octet path T (encapsulated_value path T) at n
+    (order_of b) (at + 1) [])) (add-zero (at + 1))
     (ordered_sound T path at n (order_of b) (at + 1) [] fits.kind (omega arith)
     (λ inner. read_keeps d inner (path ++ Held ∷ []) (part_of T 0)
     (fit_held d T fit fits.kind))))
@@ -138,8 +139,8 @@ leaf_step_sound d coding path T (Content U total offset piece) at b fit fits = s
 -- What one more octet leaves still fits into the type.
 pub step_keeps : (d : ℕ) (coding : Coding) (path : List PathSegment) (T : Ty)
     (outer : List OpenPart)
-    (leaf : Leaf) (at b : ℕ) → IsFit d T → FitsIn T outer leaf → Surrounds at outer →
-    Sound T (at + 1) (step coding path outer leaf at b)
+    (leaf : Leaf) (at b : ℕ) → IsFit d T → FitsIn T outer leaf → AllHoldOffset at outer →
+    IsSoundReading T (at + 1) (step coding path outer leaf at b)
 step_keeps d coding path T [] leaf at b fit fits around =
     leaf_step_sound d coding path T leaf at b fit fits
 step_keeps zero coding path T (Part U i count ∷ outer) leaf at b fit fits around =
@@ -169,7 +170,7 @@ step_keeps zero coding path T (Inside U c end ∷ outer) leaf at b fit fits arou
 step_keeps (suc d) coding path T (Inside U c end ∷ outer) leaf at b fit fits around =
     let inner = step c (path ++ Held ∷ []) outer leaf at b in
     let began = begun_later c at (at + 1) (omega arith) around.0.1 in
-    rw fits.0.same (subst (λ m. Sound T m (enclosed path T c end none_left inner []))
+    rw fits.0.same (subst (λ m. IsSoundReading T m (enclosed path T c end none_left inner []))
     (add-zero (at + 1))
     (sound_enclosed T path c end (at + 1) none_left fits.0.kind began inner []
     (step_keeps d c (path ++ Held ∷ []) (part_of T 0) outer leaf at b (fit_held d T fit fits.0.kind)

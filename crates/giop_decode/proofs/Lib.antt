@@ -44,7 +44,7 @@ mod LastKeys
 mod LastNoted
 mod Taking
 mod Runs
-mod SoFar
+mod FirstTaken
 mod Versions
 mod Gathering
 mod Whole

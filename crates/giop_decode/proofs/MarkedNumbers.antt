@@ -4,18 +4,18 @@ use Rattle.giop_cdr.specs.declared.number.Number.TheVariants as numbers
 use Rattle.giop_cdr.specs.declared.prim.Primitive.TheVariants as prims
 use Rattle.giop_decode.specs.declared.progress.ValueFault.TheVariants as kinds
 use Rattle.giop_decode.specs.ReadResult.{Coding, Fault, Number, PathSegment}
-use Rattle.giop_decode.specs.Reading.{sign_of, wrong}
-use Rattle.giop_decode.specs.ReadingSteps.{after}
+use Rattle.giop_decode.specs.Reading.{sign_of, number_fault}
+use Rattle.giop_decode.specs.ReadingSteps.{after_number}
 use Rattle.giop_decode.specs.Spelling.{value_text}
 use Rattle.giop_decode.specs.Transitions.{IsNumberOf}
 use Rattle.giop_print.specs.Line.{headed}
 use Rattle.giop_print.specs.Lines.{kind_line, kind_word, named_text, number_text, spaced}
 use Rattle.giop_sig.specs.Kinds.{marked_word}
-use Rattle.giop_sig.specs.Names.{coded, marked_name}
+use Rattle.giop_sig.specs.Names.{text_with_code, marked_name}
 use Rattle.giop_sig.specs.Types.{Marked, MarkedNumber, Scalar, Single, Ty, interpreted_by}
 
 abbrev pub number_marked : (T : Ty) (mark n : ℕ) → T ≡ Single (Marked mark) →
-    wrong (Marked mark) n ≡ None → n < 256 ^ 4 → IsNumberOf T (numbers.Unsigned n)
+    number_fault (Marked mark) n ≡ None → n < 256 ^ 4 → IsNumberOf T (numbers.Unsigned n)
 number_marked T mark n is right within = record {
   scalar = Marked mark;
   n = n;
@@ -26,8 +26,8 @@ number_marked T mark n is right within = record {
 }
 
 pub marked_wrong : (coding : Coding) (path : List PathSegment) (T : Ty) (at mark n : ℕ) →
-    T ≡ Single (Marked mark) → wrong (Marked mark) n ≡ Some kinds.Enum →
-    after coding path T n at [] ≡ Fault [] at kinds.Enum T
+    T ≡ Single (Marked mark) → number_fault (Marked mark) n ≡ Some kinds.Enum →
+    after_number coding path T n at [] ≡ Fault [] at kinds.Enum T
 marked_wrong coding path T at mark n is bad = rw (is, bad) refl
 
 -- The line of a number with a mark. If it is a kind, the line has its word; else it is the line of
@@ -62,13 +62,13 @@ bare_value message path mark n none unnamed = rw (none, unnamed) refl
 
 -- a name after a number, before the rest of its line
 named_before : (n : ℕ) (word : List ℕ) (code : Option ℕ) (rest : List ℕ) →
-    named_text n word code ++ rest ≡ decimal n ++ (codes " " ++ (coded word code ++ rest))
+    named_text n word code ++ rest ≡ decimal n ++ (codes " " ++ (text_with_code word code ++ rest))
 named_before n word None rest = append_assoc (decimal n) (codes " " ++ word) rest
 named_before n word (Some code) rest =
     append_assoc (decimal n) (codes " " ++ (word ++ (codes " " ++ decimal code))) rest
 
 pub named_value : (message : ℕ) (path word : List ℕ) (code : Option ℕ) (mark n : ℕ) →
-    marked_word mark n ≡ None → marked_name mark n ≡ Some (coded word code) →
+    marked_word mark n ≡ None → marked_name mark n ≡ Some (text_with_code word code) →
     kind_line message path (codes " ulong ") (named_text n word code)
     ≡ value_text message path (Number (Marked mark) n)
 unfolding kind_line

@@ -9,10 +9,10 @@ use Rattle.giop_decode.specs.declared.leaf.Output.TheVariants as outputs
 use Rattle.giop_decode.specs.declared.notes.Buffer.{Buffer}
 use Rattle.giop_decode.specs.declared.notes.Buffer.TheVariants as buffers
 use Rattle.giop_decode.specs.declared.notes.Notes.{Notes}
-use Rattle.giop_decode.specs.SeenState.{AreOfRoot, HoldsNoKey, HoldsNoted, IsHeld, held_key, status_of}
+use Rattle.giop_decode.specs.SeenState.{NotesFitRoot, HoldsNoKey, HoldsNoted, BufferHolds, key_octets_held, status_of}
 use Rattle.giop_decode.specs.DecoderSteps.{IsNotRefused}
-use Rattle.giop_decode.specs.NameBuffer.{FitsName, IsNotedOf}
-use Rattle.giop_decode.specs.Noted.{Noted, expects_after, note_key, note_value, noted, nothing_noted, with_expects, without_name_if, is_key_path, is_member}
+use Rattle.giop_decode.specs.NameBuffer.{NameBufferFits, IsNotedCount}
+use Rattle.giop_decode.specs.Noted.{Noted, expects_after, note_key, note_value, note_lines, nothing_noted, with_expects, without_name_if, is_key_path, is_member}
 use Rattle.giop_decode.specs.NotingSteps.{OffsetMoves, StringGoesOn, clears_name, transition_offset}
 use Rattle.giop_decode.specs.ReadResult.{PathSegment, ValueAt, Value, Number, Piece}
 use Rattle.giop_decode.specs.Transitions.{IsOutput}
@@ -26,24 +26,25 @@ use Rattle.giop_sig.specs.Types.{Scalar, Plain, Enum, Ty, Text, Marked}
 
 -- what is noted of a name if no piece of a string is under way, or if one is that begins at this
 -- offset
-abbrev AreNoted : Root → Option ℕ → Option (List ℕ) → List ℕ → Type 0
+abbrev AreNoted : (root : Root) (offset : Option ℕ) (name : Option (List ℕ)) (so_far : List ℕ) →
+    Type 0
 AreNoted root None name so_far = so_far ≡ []
-AreNoted root (Some offset) name so_far = (name ≡ None) × IsNotedOf root offset (length so_far)
+AreNoted root (Some offset) name so_far = (name ≡ None) × IsNotedCount root offset (length so_far)
 
-record Stands (C : Table) (root : Root) (at : Option ℕ) (buffer : Buffer) (octets : List ℕ)
+record BufferStands (C : Table) (root : Root) (at : Option ℕ) (buffer : Buffer) (octets : List ℕ)
     : Type 0 where
   name : Option (List ℕ)
   so_far : List ℕ
   key_so_far : List ℕ
-  held : IsHeld buffer octets name so_far (held_key C key_so_far)
+  held : BufferHolds buffer octets name so_far (key_octets_held C key_so_far)
   noted : AreNoted root at name so_far
 
-all_noted : (root : Root) (offset : ℕ) → IsNotedOf root offset offset
+all_noted : (root : Root) (offset : ℕ) → IsNotedCount root offset offset
 all_noted roots.Body offset = omega arith
 all_noted root offset = refl
 
 -- if the table has KEYs, all octets of a key are held
-all_held : (C : Table) (octets : List ℕ) → has_keys C ≡ true → held_key C octets ≡ octets
+all_held : (C : Table) (octets : List ℕ) → has_keys C ≡ true → key_octets_held C octets ≡ octets
 all_held C [] has = refl
 all_held C (x ∷ octets) has = rw has refl
 
@@ -55,11 +56,12 @@ keys_by : (C : Table) (b : Bool) → has_keys C ≡ b → (has_keys C ≡ false 
 keys_by C true is some = is
 keys_by C false is some = absurd (some is)
 
-long_held : (C : Table) → MayHold C buffers.LongKey → 128 < length (held_key C (replicate 129 0))
+long_held : (C : Table) → MayHold C buffers.LongKey →
+    128 < length (key_octets_held C (replicate 129 0))
 long_held C may = rw (all_held C (replicate 129 0) (keys_by C (has_keys C) refl may)) (lit< tt)
 
 stands : (C : Table) (root : Root) (at : Option ℕ) (buffer : Buffer) (octets : List ℕ) →
-    MayHold C buffer → FitsName root at buffer octets → Stands C root at buffer octets
+    MayHold C buffer → NameBufferFits root at buffer octets → BufferStands C root at buffer octets
 stands C root None buffers.Begun octets may fits = search (arith)
 stands C root None buffers.Whole octets may fits = search (arith)
 stands C root None buffers.TooLong octets may fits = absurd fits
@@ -108,13 +110,13 @@ stands C root (Some offset) buffers.LongKey octets may fits =
       noted = (refl, fits.1);
     }
 
-most_noted : (root : Root) (offset n : ℕ) → IsNotedOf root offset n → n ≤ offset
+most_noted : (root : Root) (offset n : ℕ) → IsNotedCount root offset n → n ≤ offset
 most_noted roots.Body offset n h = h
 most_noted root offset n h = omega (arith, h)
 
 fits_name : (root : Root) (at : Option ℕ) (buffer : Buffer) (octets so_far key : List ℕ)
-    (name : Option (List ℕ)) → IsHeld buffer octets name so_far key →
-    AreNoted root at name so_far → FitsName root at buffer octets
+    (name : Option (List ℕ)) → BufferHolds buffer octets name so_far key →
+    AreNoted root at name so_far → NameBufferFits root at buffer octets
 fits_name root None buffers.Begun octets so_far key name held is = sym held.1 ∙ is
 fits_name root None buffers.Whole octets so_far key name held is = tt
 fits_name root None buffers.TooLong octets so_far key name held is = search (arith)
@@ -178,7 +180,7 @@ output_noted : (header : Bool) (root : Root) (T : Ty) (was next : Option ℕ) (o
     (path : List PathSegment) (at : ℕ) (piece : List ℕ) (lines : List ValueAt) (h : Noted) →
     OffsetMoves T was next output (length piece) → IsOutput T path at output piece lines →
     AreNoted root was h.name h.so_far →
-    (let k = without_name_if (clears_name output) (noted header h lines) in
+    (let k = without_name_if (clears_name output) (note_lines header h lines) in
     AreNoted root next k.name k.so_far)
 output_noted header root T was next outputs.Nothing path at piece lines h moves says is =
     rw (says, moves) is
@@ -213,10 +215,10 @@ pub name_kept : (C : Table) (header : Bool) (root : Root) (T : Ty) (was next : O
     IsNotRefused transition → StringGoesOn T was transition output (length piece) →
     next ≡ transition_offset T transition →
     IsOutput T path at output piece lines → MayHold C old.buffer →
-    FitsName root was old.buffer old.name.items →
+    NameBufferFits root was old.buffer old.name.items →
     ((h : Noted) → HoldsNoted C false old h → HoldsNoted C false new
-    (without_name_if (clears_name output) (noted header h lines))) →
-    FitsName root next new.buffer new.name.items
+    (without_name_if (clears_name output) (note_lines header h lines))) →
+    NameBufferFits root next new.buffer new.name.items
 name_kept C header root T was next transition output path at piece lines old new going moves leads
     says may fits notes =
     let s = stands C root was old.buffer old.name.items may fits in
@@ -229,7 +231,7 @@ name_kept C header root T was next transition output path at piece lines old new
       key = None;
       key_so_far = s.key_so_far;
     } in
-    let k = without_name_if (clears_name output) (noted header h lines) in
+    let k = without_name_if (clears_name output) (note_lines header h lines) in
     let held = notes h (record {
       request_id = refl;
       status = refl;
@@ -238,17 +240,17 @@ name_kept C header root T was next transition output path at piece lines old new
       name = s.held;
     }) in
     rw leads (fits_name root (transition_offset T transition) new.buffer new.name.items k.so_far
-    (held_key C k.key_so_far) k.name held.name
+    (key_octets_held C k.key_so_far) k.name held.name
     (output_noted header root T was (transition_offset T transition) output path at piece lines h
     (moves_on T was transition output (length piece) going moves) says s.noted))
 
 -- before the first octet the name buffer has what it can have
 pub nothing_fits : (C : Table) (root : Root) (m : Notes) → HoldsNoted C true m nothing_noted →
-    FitsName root None m.buffer m.name.items
+    NameBufferFits root None m.buffer m.name.items
 nothing_fits C root m held = search (arith, fits_name)
 
 pub nothing_of_root : (C : Table) (root : Root) (m : Notes) → HoldsNoted C true m nothing_noted →
-    HoldsNoKey m.buffer → AreOfRoot C root m
+    HoldsNoKey m.buffer → NotesFitRoot C root m
 nothing_of_root C root m held none =
     record {
       id = λ body. held.request_id;

@@ -25,29 +25,29 @@ use Rattle.giop_decode.specs.declared.notes.Notes.{Notes}
 use Rattle.giop_decode.specs.declared.parts.PartAhead.{PartAhead}
 use Rattle.giop_decode.specs.declared.progress.Progress.{Progress}
 use Rattle.giop_decode.specs.declared.progress.Progress.TheVariants as progress
-use Rattle.giop_decode.specs.SeenState.{AreOfRoot, Fits, HoldsNoted}
-use Rattle.giop_decode.specs.DecoderSteps.{emitted, transition_result}
-use Rattle.giop_decode.specs.Noted.{Noted, first_of, noted, is_header_root}
-use Rattle.giop_decode.specs.NextParts.{IsAtNext, IsNextNumber, IsPartAhead, frames_above, front_text, next_of}
+use Rattle.giop_decode.specs.SeenState.{NotesFitRoot, Fits, HoldsNoted}
+use Rattle.giop_decode.specs.DecoderSteps.{root_after_transition, transition_result}
+use Rattle.giop_decode.specs.Noted.{Noted, first_present, note_lines, is_header_root}
+use Rattle.giop_decode.specs.NextParts.{IsAtNextPart, IsNextPrimitive, IsPartAhead, frames_above, front_text, frame_at_next}
 use Rattle.giop_decode.specs.ReadResult.{Coding, PathSegment, ValueAt, Number, LeadingNumber, Short, line, with_front, Done}
-use Rattle.giop_decode.specs.ReadingSteps.{around, path_in}
-use Rattle.giop_decode.specs.Passes.{IsBehind, Gives, Passes}
+use Rattle.giop_decode.specs.ReadingSteps.{resume_outer, path_in}
+use Rattle.giop_decode.specs.Passes.{HasCountedOctet, AreStepLines, NotesAndAdvances}
 use Rattle.giop_decode.specs.Runs.{TakenTogether, TakesSome}
-use Rattle.giop_decode.specs.Transitions.{AreKnown, HaveOctetsLeft, IsClean, IsKnown, IsWholeNumber, Link, StandAt, gone_on, is_inside, leaf_type, open_parts, part_in, tree_in}
-use Rattle.giop_decode.specs.Reading.{none_left, rooted}
+use Rattle.giop_decode.specs.Transitions.{AreKnown, HaveOctetsLeft, HoldsOnlyItsOwn, IsKnown, IsWholeNumber, Link, StandAt, read_from_next_leaf, within_of, leaf_type, open_parts, part_in, tree_in}
+use Rattle.giop_decode.specs.Reading.{none_left, done_if_untyped}
 use Rattle.giop_decode.proofs.Advancing.{rooted_result, comes_by, one_further, same_some, stands_at}
 use Rattle.giop_decode.proofs.Beginning.{all_push, places_push}
-use Rattle.giop_decode.proofs.Counting.{ahead_free, free_ticked_by}
-use Rattle.giop_decode.proofs.Going.{PartPopped, Next, part_popped, next_in, goes_next, part_is}
+use Rattle.giop_decode.proofs.Counting.{ahead_free, free_after_octets}
+use Rattle.giop_decode.proofs.Going.{PartPopped, HasPartAfter, part_popped, next_in, goes_next, part_is}
 use Rattle.giop_decode.proofs.HeardFrames.{heard_free}
-use Rattle.giop_decode.proofs.Surrounding.{unheard, ahead_by, around_unless_ended, behind_stopped, free_coding_by, free_ended, free_first, free_ticked, front_gone, push_more, untelling, outside_pop, places_ticked}
+use Rattle.giop_decode.proofs.Surrounding.{unheard, ahead_by, around_unless_ended, behind_stopped, free_coding_by, free_ended, free_first, free_after_octet, front_gone, push_more, untelling, outside_pop, places_after_octet}
 use Rattle.giop_decode.proofs.TransitionsInFrames.{around_done}
 use Rattle.giop_decode.proofs.FieldsRead.{headed_is, path_spelled}
 use Rattle.giop_decode.proofs.Linking.{link_next, link_pop}
 use Rattle.giop_decode.proofs.Noting.{stopped_silent}
 use Rattle.giop_decode.proofs.Passing.{last_says, passed_broken, passed_some}
 use Rattle.giop_decode.proofs.Segments.{said_one}
-use Rattle.giop_decode.proofs.SoFar.{AllSay}
+use Rattle.giop_decode.proofs.FirstTaken.{NextLinesSatisfy}
 use Rattle.giop_decode.proofs.Whole.{IsAtLast, at_last, behind_last, comes_number, is_at_last, no_piece}
 use Rattle.giop_decode.specs.NameBuffer.{string_offset}
 use Rattle.giop_decode.specs.NotingSteps.{transition_offset}
@@ -59,14 +59,14 @@ use Rattle.giop_decode.proofs.Rooms.{counted_bare, place_in_room}
 use Rattle.giop_sig.specs.Trees.{tree, tree_at}
 use Rattle.giop_sig.specs.declared.types.TypeId.{TypeId}
 
-first_none : (o : Option ℕ) → first_of o None ≡ o
+first_none : (o : Option ℕ) → first_present o None ≡ o
 first_none None = refl
 first_none (Some n) = refl
 
 -- outside a header nothing is noted of a primitive
 plain_noted : (C : Table) (asked : Bool) (m : Notes) (h : Noted) (p : Primitive) (n at : ℕ)
     (path : List PathSegment) → HoldsNoted C asked m h →
-    HoldsNoted C asked m (noted false h (line at path (Number (Plain p) n) ∷ []))
+    HoldsNoted C asked m (note_lines false h (line at path (Number (Plain p) n) ∷ []))
 plain_noted C asked m h prims.ULong n at path r = search (arith, first_none)
 plain_noted C asked m h p n at path r = search (arith)
 
@@ -82,34 +82,34 @@ pub last_frame : (frames : List Frame) (i : ℕ) (x : Frame) → i + 1 ≡ lengt
 last_frame frames i x e = search (arith, take_all, take_more, take, get_or)
 
 pub front_kept : (C : Table) (d new : Decoder) (part : PartAhead) (next : TypeId) →
-    IsAtNext C d new part next → front_text C new ≡ front_text C d
+    IsAtNextPart C d new part next → front_text C new ≡ front_text C d
 front_kept C d new part next n = search (arith, above_push)
 
-last_free : (frames : List Frame) (f : Frame) → is_inside (frames ++ f ∷ []) ≡ withins.Nothing →
+last_free : (frames : List Frame) (f : Frame) → within_of (frames ++ f ∷ []) ≡ withins.Nothing →
     (f.inside ≡ None) × (f.told ≡ None)
 last_free [] f h = let n = free_first f [] h in (n.0, n.1)
 last_free (g ∷ frames) f h = last_free frames f
     (free_first g (frames ++ f ∷ []) h).2
 
-push_free : (frames : List Frame) (f : Frame) → is_inside frames ≡ withins.Nothing → f.inside ≡ None
+push_free : (frames : List Frame) (f : Frame) → within_of frames ≡ withins.Nothing → f.inside ≡ None
     →
-    f.told ≡ None → is_inside (frames ++ f ∷ []) ≡ withins.Nothing
+    f.told ≡ None → within_of (frames ++ f ∷ []) ≡ withins.Nothing
 push_free frames f h none quiet = push_more frames f none ∙ rw (quiet, h) refl
 
-pub stand_free : (at : ℕ) (frames : List Frame) → is_inside frames ≡ withins.Nothing → StandAt at
+pub stand_free : (at : ℕ) (frames : List Frame) → within_of frames ≡ withins.Nothing → StandAt at
     frames
 stand_free at [] h = tt
 stand_free at (f ∷ frames) h =
     let n = free_first f frames h in
     (rw n.0 tt, stand_free at frames n.2)
 
-pub places_free : (C : Table) (here : ℕ) (frames : List Frame) → is_inside frames ≡ withins.Nothing
+pub places_free : (C : Table) (here : ℕ) (frames : List Frame) → within_of frames ≡ withins.Nothing
     →
     HaveOctetsLeft frames → AreKnown C frames →
     open_parts C here frames ≡ open_parts C (here + 1) frames
 places_free C here frames h ahead known =
-    sym (places_ticked C 24 here frames ahead known)
-    ∙ ap (open_parts C (here + 1)) (sym (free_ticked frames h))
+    sym (places_after_octet C 24 here frames ahead known)
+    ∙ ap (open_parts C (here + 1)) (sym (free_after_octet frames h))
 
 frames_text-push : (C : Table) (frames : List Frame) (f : Frame) →
     frames_text C (frames ++ f ∷ []) ≡ frames_text C frames ++ frame_text C f
@@ -141,10 +141,10 @@ module _ (C : Table) (d : Decoder) (of : TypeId) (frame : Frame) (f : Fits C d)
     (outside : d.inside ≡ withins.Nothing) (outer : d.outer.items ≡ frames_above d.outer.items ++
     frame ∷ [])
   where
-    free_outer : is_inside d.outer.items ≡ withins.Nothing
+    free_outer : within_of d.outer.items ≡ withins.Nothing
     free_outer = sym f.inside ∙ outside
 
-    free_above : is_inside (frames_above d.outer.items) ≡ withins.Nothing
+    free_above : within_of (frames_above d.outer.items) ≡ withins.Nothing
     free_above = search (arith, outside_pop, free_outer)
 
     free_frame : (frame.inside ≡ None) × (frame.told ≡ None)
@@ -158,7 +158,7 @@ module _ (C : Table) (d : Decoder) (of : TypeId) (frame : Frame) (f : Fits C d)
         s.are_open.1 outer free_frame.0 free_frame.1
 
     follows : frame.index + 1 < frame.count →
-        Next (suc popped_frame.left) (tree_in C (frames_above d.outer.items) frame.of.0)
+        HasPartAfter (suc popped_frame.left) (tree_in C (frames_above d.outer.items) frame.of.0)
         frame.index frame.count
     follows below =
         let above = frames_above d.outer.items in
@@ -187,7 +187,7 @@ module _ (C : Table) (d : Decoder) (part : PartAhead) (f : Fits C d)
   abbrev above : List Frame
   above = frames_above d.outer.items
 
-  free : is_inside d.outer.items ≡ withins.Nothing
+  free : within_of d.outer.items ≡ withins.Nothing
   free = search (arith)
 
   whole_here : IsWholeNumber (tree_in C d.outer.items part.of.0) d.order d.at octets part.count
@@ -200,7 +200,7 @@ module _ (C : Table) (d : Decoder) (part : PartAhead) (f : Fits C d)
   -- the decoder at the last octet of the number; no octet was counted, as there is no encapsulation
   pub part_at_last : (at : ℕ) → at ≡ (d.at + (part.count - 1)) % 8 →
       IsAtLast d (at_last d at d.outer) part.count
-  part_at_last at e = search (arith, is_at_last, free_ticked_by, free)
+  part_at_last at e = search (arith, is_at_last, free_after_octets, free)
 
   -- how many octets come before the number's last one, and the decoder at that last one
   abbrev last : ℕ
@@ -214,7 +214,7 @@ module _ (C : Table) (d : Decoder) (part : PartAhead) (f : Fits C d)
 
   -- the decoder after all octets of the number
   pub part_behind : (at : ℕ) → at ≡ (d.at + part.count) % 8 →
-      IsBehind C there (at_last d at d.outer) part.of.0 ended []
+      HasCountedOctet C there (at_last d at d.outer) part.of.0 ended []
   part_behind at e =
       behind_last C d octets part.of part.count ended [] f there taken_together on
       (at_last d at d.outer) refl refl refl (omega (arith, e, taken_together.some))
@@ -230,7 +230,7 @@ module _ (C : Table) (d : Decoder) (part : PartAhead) (f : Fits C d)
   text = kind_line d.head.message place (spaced (kind_word part.prim))
       (number_text (size_of part.prim) part.number)
 
-  pub part_says : (Says : List ℕ → Type 0) → Says text → AllSay C d octets last Says
+  pub part_says : (Says : List ℕ → Type 0) → Says text → NextLinesSatisfy C d octets last Says
   part_says Says w =
       last_says C d octets part.of part.count ended [] f there taken_together on Says
       (λ here at lines says.
@@ -252,7 +252,7 @@ module _ (C : Table) (d : Decoder) (part : PartAhead) (f : Fits C d)
           place ≡ path_text d.head.root (path_in [] (open_parts C here d.outer.items))
       path_is here = search (arith, append_assoc, frames_text-push, path_spelled)
 
-  above_free : is_inside above ≡ withins.Nothing
+  above_free : within_of above ≡ withins.Nothing
   above_free = free_above C d part.of part.frame f h.leaf h.outside h.outer
 
   none : part.frame.inside ≡ None
@@ -265,14 +265,15 @@ module _ (C : Table) (d : Decoder) (part : PartAhead) (f : Fits C d)
       above part.frame
   popped_part = popped_frame C d part.of part.frame f h.leaf h.outside h.outer
 
-  module _ (new : Decoder) (next : TypeId) (follower : IsNextNumber C part.frame next)
-      (n : IsAtNext C d new part next)
+  module _ (new : Decoder) (next : TypeId) (follower : IsNextPrimitive C part.frame next)
+      (n : IsAtNextPart C d new part next)
       (body : is_header_root d.head.root ≡ false) where
-    new_free : is_inside new.outer.items ≡ withins.Nothing
+    new_free : within_of new.outer.items ≡ withins.Nothing
     new_free = search (arith, push_free, above_free, none, quiet)
 
     known_new : AreKnown C new.outer.items
-    known_new = rw n.outer (all_push (IsKnown C) above (next_of part.frame) popped_part.known_rest
+    known_new = rw n.outer (all_push (IsKnown C) above (frame_at_next part.frame)
+        popped_part.known_rest
         (record {
           known = popped_part.known;
           within = λ room. rw (none, quiet) (
@@ -283,8 +284,8 @@ module _ (C : Table) (d : Decoder) (part : PartAhead) (f : Fits C d)
         }))
 
     gone : (coding : Coding) (path : List PathSegment) (at : ℕ) →
-        around coding path (open_parts C at d.outer.items) (Done [] at [])
-        ≡ gone_on C at new.outer.items (Some (innermost.Number next))
+        resume_outer coding path (open_parts C at d.outer.items) (Done [] at [])
+        ≡ read_from_next_leaf C at new.outer.items (Some (innermost.Number next))
     gone coding path at =
         let T = tree_in C above part.frame.of.0 in
         let i = part.frame.index in
@@ -299,24 +300,24 @@ module _ (C : Table) (d : Decoder) (part : PartAhead) (f : Fits C d)
         let leaf : start_leaf P ≡ LeadingNumber N [] =
         rw is (rw (follower.is (24 - length new.outer.items)) refl) in
         let outer : open_parts C at new.outer.items ≡ open_parts C at above ++ then ∷ [] =
-        ap (open_parts C at) n.outer ∙ (places_push C 24 at above (next_of part.frame)
+        ap (open_parts C at) n.outer ∙ (places_push C 24 at above (frame_at_next part.frame)
         ∙ ap (λ q. open_parts C at above ++ q ∷ [])
-        (part_is C (24 - length above) at (next_of part.frame) none quiet ∙ ap (λ k. part_in T k
-        count)
+        (part_is C (24 - length above) at (frame_at_next part.frame) none quiet
+        ∙ ap (λ k. part_in T k count)
         (add-one i))) in
-        let right : gone_on C at new.outer.items (Some (innermost.Number next))
+        let right : read_from_next_leaf C at new.outer.items (Some (innermost.Number next))
         ≡ Short [] at (open_parts C at above ++ then ∷ []) (LeadingNumber N []) =
         rw (free_ended new.outer.items new_free, outer) refl in
         let first : start_outer P ≡ [] = rw is refl in
-        let left : around coding path (open_parts C at above)
+        let left : resume_outer coding path (open_parts C at above)
         (Short [] at (then ∷ start_outer P) (start_leaf P))
         ≡ Short [] at (open_parts C at above ++ then ∷ []) (LeadingNumber N []) =
         rw (first, leaf) (around_unless_ended C 24 coding path at above (then ∷ [])
         (LeadingNumber N []) popped_part.known_rest
         ∙ rw (free_ended above above_free) refl) in
-        ap (λ ps. around coding path ps (Done [] at []))
+        ap (λ ps. resume_outer coding path ps (Done [] at []))
         (ap (open_parts C at) h.outer ∙ places_push C 24 at above part.frame)
-        ∙ (ap (λ q. around coding path (open_parts C at above ++ q ∷ []) (Done [] at []))
+        ∙ (ap (λ q. resume_outer coding path (open_parts C at above ++ q ∷ []) (Done [] at []))
         (part_is C (24 - length above) at part.frame none quiet)
         ∙ (goes_next coding path (open_parts C at above) T i count at popped_part.left
         (follows C d part.of part.frame f h.leaf h.outside h.outer follower.below)
@@ -324,16 +325,17 @@ module _ (C : Table) (d : Decoder) (part : PartAhead) (f : Fits C d)
         ∙ (left ∙ sym right)))
 
     come : (coding : Coding) (here : ℕ) (lines : List ValueAt) →
-        emitted coding C d part.of.0 transitions.Ended (outputs.Number part.number) lines here
+        root_after_transition coding C d part.of.0 transitions.Ended (outputs.Number part.number)
+        lines here
         ≡ transition_result C (tree_in C d.outer.items part.of.0) new transitions.Ended lines (here
         + 1)
     come coding here lines =
         let ps = open_parts C (here + 1) d.outer.items in
         let leaf = innermost.Number next in
-        ap (rooted none_left) (ap (λ qs. around coding [] qs (Done lines (here + 1) []))
-        (places_free C here d.outer.items free f.ahead f.known_outer)
+        ap (done_if_untyped none_left) (ap (λ qs. resume_outer coding [] qs
+        (Done lines (here + 1) [])) (places_free C here d.outer.items free f.ahead f.known_outer)
         ∙ ((around_done coding [] ps lines (here + 1)
-        ∙ ap (λ qs. with_front lines (around coding [] qs (Done [] (here + 1) [])))
+        ∙ ap (λ qs. with_front lines (resume_outer coding [] qs (Done [] (here + 1) [])))
         (unheard C 24 (here + 1) lines d.outer.items (untelling d.outer.items free)))
         ∙ (ap (with_front lines) (gone coding [] (here + 1))
         ∙ (front_gone C lines (here + 1) new.outer.items (Some leaf)
@@ -344,7 +346,8 @@ module _ (C : Table) (d : Decoder) (part : PartAhead) (f : Fits C d)
         ∙ rooted_result C (tree_in C d.outer.items part.of.0) new transitions.Ended lines (here +
         1) tt
 
-    plain_says : (here at : ℕ) (lines : List ValueAt) → Gives C d part.of.0 ended [] here at lines →
+    plain_says : (here at : ℕ) (lines : List ValueAt) →
+        AreStepLines C d part.of.0 ended [] here at lines →
         (scalar : Scalar) × (n : ℕ) × (scalar ≡ Plain part.prim)
         × (interpreted_by scalar n ≡ Some part.number)
         × (lines ≡ line at (path_in [] (open_parts C here d.outer.items)) (Number scalar n) ∷ [])
@@ -360,12 +363,12 @@ module _ (C : Table) (d : Decoder) (part : PartAhead) (f : Fits C d)
     body_new : is_header_root new.head.root ≡ false
     body_new = rw n.head body
 
-    part_passes : Passes C there new part.of.0 ended [] progress.More
+    part_passes : NotesAndAdvances C there new part.of.0 ended [] progress.More
     part_passes =
         record {
           order = n.order;
           head = n.head;
-          narrow = n.narrow;
+          forbids_wide = n.forbids_wide;
           here = λ coding here k. one_further coding there new here n.order
               (let some = taken_together.some in omega (arith, n.at, some))
               (stand_free (here + 1) new.outer.items new_free) k;
@@ -375,12 +378,13 @@ module _ (C : Table) (d : Decoder) (part : PartAhead) (f : Fits C d)
             ahead = ahead_by C new.outer.items known_new (free_ended new.outer.items new_free);
             known = λ leaf is. subst (λ l. leaf_type l < length C.types) (at_next leaf is)
                 follower.known;
-            clean = λ leaf is. subst (λ l. IsClean l new.carry new.piece.items) (at_next leaf is)
+            clean = λ leaf is. subst (λ l. HoldsOnlyItsOwn l new.carry new.piece.items)
+                (at_next leaf is)
                 (ap (λ p. p.items) n.piece ∙ no_piece C d part.of octets part.count f h.leaf);
             link = λ root leaf link is. subst (λ l. Link C root new.outer.items (leaf_type l))
                 (at_next leaf is)
-                (link_next C root above new.outer.items part.frame.of.0 next.0 (next_of part.frame)
-                refl n.outer 24
+                (link_next C root above new.outer.items part.frame.of.0 next.0
+                (frame_at_next part.frame) refl n.outer 24
                 (bare_next C d part.of part.frame f h.leaf h.outside h.outer follower.below)
                 (rw (none, quiet) follower.number)
                 (link_pop C root d.outer.items above part.frame part.of.0 h.outer link));
@@ -399,12 +403,12 @@ module _ (C : Table) (d : Decoder) (part : PartAhead) (f : Fits C d)
           inside = λ coding here lines says. ap ends_in_string (come coding here lines)
               ∙ stopped_silent C new.outer.items new.carry new.piece.items new.leaf lines (here + 1)
               (rw n.leaf refl);
-          of_root = λ was. subst (AreOfRoot C d.head.root) (sym n.notes) was;
+          of_root = λ was. subst (NotesFitRoot C d.head.root) (sym n.notes) was;
           notes = λ asked o here at lines held says.
               let k = plain_says here at lines says in
               let kept = plain_noted C asked d.notes o part.prim k.1 at
               (path_in [] (open_parts C here d.outer.items)) held in
-              subst (λ m. HoldsNoted C asked m (noted (is_header_root d.head.root) o lines))
+              subst (λ m. HoldsNoted C asked m (note_lines (is_header_root d.head.root) o lines))
               (sym n.notes)
               (rw (body, k.4, k.2) kept);
         }

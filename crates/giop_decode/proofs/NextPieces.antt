@@ -12,27 +12,27 @@ use Rattle.giop_decode.specs.declared.pieces.PieceAhead.{PieceAhead}
 use Rattle.giop_decode.specs.declared.progress.Progress.{Progress}
 use Rattle.giop_decode.specs.declared.progress.Progress.TheVariants as progress
 use Rattle.giop_decode.specs.SeenState.{Fits, HoldsNoted}
-use Rattle.giop_decode.specs.DecoderSteps.{emitted, transition_result}
+use Rattle.giop_decode.specs.DecoderSteps.{root_after_transition, transition_result}
 use Rattle.giop_decode.specs.NameBuffer.{string_offset}
-use Rattle.giop_decode.specs.NextPieces.{IsPieceAhead, IsQuiet, behind_piece}
-use Rattle.giop_decode.specs.Noted.{Noted, ends_in_string, is_header_root, names_operation, noted}
+use Rattle.giop_decode.specs.NextPieces.{IsPieceAhead, NotesNoOctets, decoder_after_piece}
+use Rattle.giop_decode.specs.Noted.{Noted, ends_in_string, is_header_root, names_operation, note_lines}
 use Rattle.giop_decode.specs.NotingSteps.{transition_in_string, transition_offset}
-use Rattle.giop_decode.specs.Passes.{Gives, Passes}
+use Rattle.giop_decode.specs.Passes.{AreStepLines, NotesAndAdvances}
 use Rattle.giop_decode.specs.ReadResult.{Coding, ValueAt, PathSegment, Piece, line}
 use Rattle.giop_decode.specs.ReadingSteps.{path_in}
 use Rattle.giop_decode.specs.Runs.{TakenTogether, TakesSome}
 use Rattle.giop_decode.specs.Segments.{frames_text}
 use Rattle.giop_decode.specs.Spelling.{value_text}
-use Rattle.giop_decode.specs.Transitions.{IsClean, Link, is_inside, leaf_type, open_parts, tree_in}
+use Rattle.giop_decode.specs.Transitions.{HoldsOnlyItsOwn, Link, within_of, leaf_type, open_parts, tree_in}
 use Rattle.giop_decode.proofs.Advancing.{comes_by, one_further, same_some, rooted_gone}
-use Rattle.giop_decode.proofs.Counting.{ahead_free, free_ticked_by}
+use Rattle.giop_decode.proofs.Counting.{ahead_free, free_after_octets}
 use Rattle.giop_decode.proofs.FieldsRead.{path_spelled}
 use Rattle.giop_decode.proofs.FieldsRead.{headed_is}
 use Rattle.giop_decode.proofs.NextParts.{places_free, stand_free}
 use Rattle.giop_decode.proofs.Noting.{keyless_piece, stopped_silent}
 use Rattle.giop_decode.proofs.Passing.{last_says, passed_broken, passed_some}
 use Rattle.giop_decode.proofs.Segments.{said_one}
-use Rattle.giop_decode.proofs.SoFar.{AllSay}
+use Rattle.giop_decode.proofs.FirstTaken.{NextLinesSatisfy}
 use Rattle.giop_decode.proofs.Surrounding.{around_free, free_ended}
 use Rattle.giop_decode.proofs.Whole.{IsAtLast, at_last, comes_full, is_at_last, no_carry}
 use Rattle.giop_print.specs.Line.{headed}
@@ -59,7 +59,7 @@ unfolding content_line
 piece_text_is message offset place octets bound = refl
 
 module _ (C : Table) (d : Decoder) (ahead : PieceAhead) (f : Fits C d)
-    (h : IsPieceAhead C d ahead) (quiet : IsQuiet C d.head.root)
+    (h : IsPieceAhead C d ahead) (quiet : NotesNoOctets C d.head.root)
     (outside : d.inside ≡ withins.Nothing) where
   abbrev octets : List ℕ
   octets = ahead.octets.now
@@ -76,7 +76,7 @@ module _ (C : Table) (d : Decoder) (ahead : PieceAhead) (f : Fits C d)
     output = outputs.Piece ahead.offset true;
   }
 
-  free : is_inside d.outer.items ≡ withins.Nothing
+  free : within_of d.outer.items ≡ withins.Nothing
   free = sym f.inside ∙ outside
 
   taken_together : TakenTogether C d octets ahead.of 32 step rest d.carry d.piece.items
@@ -90,7 +90,7 @@ module _ (C : Table) (d : Decoder) (ahead : PieceAhead) (f : Fits C d)
   there = at_last d ((d.at + 31) % 8) d.outer
 
   on : IsAtLast d there 32
-  on = search (arith, is_at_last, free_ticked_by, free)
+  on = search (arith, is_at_last, free_after_octets, free)
 
   -- the path of the piece, and its line
   abbrev place : List ℕ
@@ -103,12 +103,13 @@ module _ (C : Table) (d : Decoder) (ahead : PieceAhead) (f : Fits C d)
   is_here : tree_in C d.outer.items ahead.of.0 ≡ Octets (Raw h.bound)
   is_here = h.is (24 - length d.outer.items)
 
-  given : (here at : ℕ) (lines : List ValueAt) → Gives C there ahead.of.0 step rest here at lines →
+  given : (here at : ℕ) (lines : List ValueAt) →
+      AreStepLines C there ahead.of.0 step rest here at lines →
       lines ≡ line at (path_in [] (open_parts C here d.outer.items))
       (Piece (Octets (Raw h.bound)) ahead.offset rest true) ∷ []
   given here at lines says = rw (is_here, h.none_held) at says
 
-  piece_says : (Says : List ℕ → Type 0) → Says text → AllSay C d octets 31 Says
+  piece_says : (Says : List ℕ → Type 0) → Says text → NextLinesSatisfy C d octets 31 Says
   piece_says Says w =
       last_says C d octets ahead.of 32 step rest f there taken_together on Says
       (λ here at lines says.
@@ -118,24 +119,24 @@ module _ (C : Table) (d : Decoder) (ahead : PieceAhead) (f : Fits C d)
       (path_spelled C here d.head.root d.outer.items) (given here at lines says)) w)
 
   abbrev new : Decoder
-  new = behind_piece d ahead
+  new = decoder_after_piece d ahead
 
   come : (coding : Coding) (here : ℕ) (lines : List ValueAt) →
-      emitted coding C there ahead.of.0 step.transition step.output lines here
+      root_after_transition coding C there ahead.of.0 step.transition step.output lines here
       ≡ transition_result C (tree_in C d.outer.items ahead.of.0) new step.transition lines (here +
       1)
   come coding here lines = search (arith, rooted_gone, places_free, free, around_free)
 
   -- a piece that isn't the last names no operation
-  unnamed : (here at : ℕ) (lines : List ValueAt) → Gives C there ahead.of.0 step rest here at
+  unnamed : (here at : ℕ) (lines : List ValueAt) → AreStepLines C there ahead.of.0 step rest here at
       lines →
       false ≡ names_operation (is_header_root d.head.root) lines
   unnamed here at lines says = search (arith, given, and-false, codes)
 
   -- nothing is noted of the piece
-  kept_by : IsQuiet C d.head.root → (asked : Bool) (o : Noted) (at : ℕ) (path : List PathSegment) →
-      HoldsNoted C asked d.notes o → HoldsNoted C asked d.notes
-      (noted (is_header_root d.head.root) o
+  kept_by : NotesNoOctets C d.head.root → (asked : Bool) (o : Noted) (at : ℕ)
+      (path : List PathSegment) → HoldsNoted C asked d.notes o → HoldsNoted C asked d.notes
+      (note_lines (is_header_root d.head.root) o
       (line at path (Piece (Octets (Raw h.bound)) ahead.offset rest true) ∷ []))
   kept_by (inl body) asked o at path held = rw body held
   kept_by (inr keys) asked o at path held =
@@ -143,23 +144,23 @@ module _ (C : Table) (d : Decoder) (ahead : PieceAhead) (f : Fits C d)
       ahead.offset rest true o d.notes h.bound refl keys.0 keys.1 held
 
   kept : (asked : Bool) (o : Noted) (here at : ℕ) (lines : List ValueAt) →
-      HoldsNoted C asked d.notes o → Gives C there ahead.of.0 step rest here at lines →
-      HoldsNoted C asked d.notes (noted (is_header_root d.head.root) o lines)
+      HoldsNoted C asked d.notes o → AreStepLines C there ahead.of.0 step rest here at lines →
+      HoldsNoted C asked d.notes (note_lines (is_header_root d.head.root) o lines)
   kept asked o here at lines held says =
       rw (given here at lines says) (kept_by quiet asked o at
       (path_in [] (open_parts C here d.outer.items)) held)
 
   silent : (coding : Coding) (here : ℕ) (lines : List ValueAt) →
-      ends_in_string (emitted coding C there ahead.of.0 step.transition step.output lines here)
-      ≡ transition_in_string (tree_in C d.outer.items ahead.of.0) step.transition
+      ends_in_string (root_after_transition coding C there ahead.of.0 step.transition step.output
+      lines here) ≡ transition_in_string (tree_in C d.outer.items ahead.of.0) step.transition
   silent coding here lines = search (arith, come, stopped_silent, is_here)
 
-  piece_passes : Passes C there new ahead.of.0 step rest progress.More
+  piece_passes : NotesAndAdvances C there new ahead.of.0 step rest progress.More
   piece_passes =
       record {
         order = refl;
         head = refl;
-        narrow = refl;
+        forbids_wide = refl;
         here = λ coding here k. one_further coding there new here refl
             (let small = f.at in omega (arith, small))
             (stand_free (here + 1) d.outer.items free) k;
@@ -168,7 +169,7 @@ module _ (C : Table) (d : Decoder) (ahead : PieceAhead) (f : Fits C d)
           inside = f.inside;
           ahead = f.ahead;
           known = λ leaf is. subst (λ l. leaf_type l < length C.types) (at_next leaf is) known;
-          clean = λ leaf is. subst (λ l. IsClean l d.carry d.piece.items) (at_next leaf is)
+          clean = λ leaf is. subst (λ l. HoldsOnlyItsOwn l d.carry d.piece.items) (at_next leaf is)
               (no_carry C d ahead.of ahead.total ahead.offset octets 32 f h.leaf
               (ahead_free (length octets - 1) d.outer.items free f.ahead));
           link = λ root leaf link is. subst (λ l. Link C root d.outer.items (leaf_type l))

@@ -1,7 +1,7 @@
 -- A piece of an object key changes nothing but what is noted of keys.
 use Rattle.std.proofs.Common.{◌≡◌, Bool, true, false, List, ℕ, refl}
 use Rattle.std.specs.Prelude.{cond}
-use Rattle.giop_decode.specs.Noted.{Noted, key_ended, note_key, with_key_piece}
+use Rattle.giop_decode.specs.Noted.{Noted, with_key_ended, note_key, with_key_piece}
 use Rattle.giop_decode.specs.ReadResult.{Value, Piece}
 use Rattle.giop_sig.specs.Types.{Octets, Raw}
 
@@ -24,7 +24,8 @@ same h = record {
 
 same_piece : (is_key may more : Bool) (h : Noted) (octets : List ℕ) → SameButKey
     (cond is_key
-    (cond may (cond more (with_key_piece h octets) (key_ended (with_key_piece h octets))) h) h) h
+    (cond may (cond more (with_key_piece h octets) (with_key_ended (with_key_piece h octets))) h) h)
+    h
 same_piece false may more h octets = same h
 same_piece true false more h octets = same h
 same_piece true true true h octets = record {

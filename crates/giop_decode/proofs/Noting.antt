@@ -7,7 +7,7 @@ use Rattle.giop_decode.specs.declared.leaf.Leaf.TheVariants as innermost
 use Rattle.giop_decode.specs.declared.leaf.Transition.{Transition}
 use Rattle.giop_decode.specs.declared.leaf.Output.{Output}
 use Rattle.giop_decode.specs.declared.leaf.Output.TheVariants as outputs
-use Rattle.giop_decode.specs.Noted.{Noted, note_value, expects_after, note, ended, with_piece, noted_piece, with_key_piece, key_ended, may_have_key, noted_key, is_name, is_member, is_key_path, noted, noted_of, without_name_if, with_expects, in_content, names_operation, ends_in_string, is_text, nothing_noted}
+use Rattle.giop_decode.specs.Noted.{Noted, note_value, expects_after, note_line, with_string_ended, with_string_piece, note_string_piece, with_key_piece, with_key_ended, may_have_key, note_key_piece, is_name, is_member, is_key_path, note_lines, noted_of, without_name_if, with_expects, in_string_content, names_operation, ends_in_string, is_text, nothing_noted}
 use Rattle.giop_decode.specs.NotingSteps.{OutputFitsString, clears_name, leaf_in_string, transition_in_string}
 use Rattle.giop_decode.specs.ReadResult.{Number, Leaf, Held, PathSegment, Name, Index, Switch, ValueAt, line, Value, Piece, OpenPart, Content, Read, Done, lines_of, with_front}
 use Rattle.giop_decode.specs.declared.frame.Frame.{Frame}
@@ -16,36 +16,36 @@ use Rattle.giop_decode.specs.Transitions.{leaf_of, leaf_type, open_part, open_pa
 use Rattle.giop_decode.proofs.Resuming.{noted-append, lines_front}
 use Rattle.std.specs.Prelude.{IfSome}
 use Rattle.giop_decode.specs.Fits.{IsEncapsulation}
-use Rattle.giop_decode.specs.DecoderSteps.{stopped_with}
-use Rattle.giop_decode.specs.Reading.{cut_off}
+use Rattle.giop_decode.specs.DecoderSteps.{read_unless_ended_with}
+use Rattle.giop_decode.specs.Reading.{type_at_cut}
 use Rattle.giop_decode.proofs.Surrounding.{unless_ended}
 use Rattle.giop_sig.specs.declared.types.InterfaceId.{InterfaceId}
 use Rattle.giop_sig.specs.Table.{Table, has_keys, interface_in}
 use Rattle.giop_decode.proofs.NotedKeys.{SameButKey, same_but_key}
 use Rattle.giop_sig.specs.declared.types.Shape.TheVariants as shapes
 use Rattle.giop_decode.specs.declared.notes.Notes.{Notes}
-use Rattle.giop_decode.specs.SeenState.{HoldsNoted, IsWhose, held_key, interface_of, whose}
+use Rattle.giop_decode.specs.SeenState.{HoldsNoted, IsInterfaceOfKey, key_octets_held, interface_of, interface_of_key}
 use Rattle.std.proofs.Math.Bool.{and-false}
 use Rattle.giop_sig.specs.Types.{Scalar, Ty, Single, Text, Octets, Raw, WideText, WideChar, Struct, Union, Sequence, Array, Plain, HasShape, shape_in, Encapsulation, Led, Recursive}
 
 content_in : (T : Ty) (total offset : ℕ) (piece : List ℕ) →
-    in_content (Content T total offset piece) ≡ is_text T
+    in_string_content (Content T total offset piece) ≡ is_text T
 content_in (Text bound) total offset piece = refl
 content_in _ total offset piece = refl
 
 pub leaf_inside : (C : Table) (frames : List Frame) (leaf : Innermost) (carry piece : List ℕ) →
-    in_content (leaf_of C frames leaf carry piece)
+    in_string_content (leaf_of C frames leaf carry piece)
     ≡ leaf_in_string (tree_in C frames (leaf_type leaf)) leaf
 leaf_inside C frames (innermost.Content of total offset) carry piece = search (arith, content_in)
 leaf_inside C frames _ carry piece = refl
 
 -- an encapsulation that ends inside a string cuts the string off
-pub cut_inside : (leaf : Leaf) → is_text (cut_off leaf) ≡ in_content leaf
+pub cut_inside : (leaf : Leaf) → is_text (type_at_cut leaf) ≡ in_string_content leaf
 cut_inside (Content T total offset piece) = search (arith, content_in)
 cut_inside _ = refl
 
 pub unless_ended_inside : (ended : Bool) (lines : List ValueAt) (at : ℕ) (outer : List OpenPart)
-    (leaf : Leaf) → ends_in_string (unless_ended ended lines at outer leaf) ≡ in_content leaf
+    (leaf : Leaf) → ends_in_string (unless_ended ended lines at outer leaf) ≡ in_string_content leaf
 unless_ended_inside true lines at outer leaf = cut_inside leaf
 unless_ended_inside false lines at outer leaf = refl
 
@@ -57,7 +57,7 @@ rest_silent _ h = absurd h
 pub stopped_silent : (C : Table) (frames : List Frame) (carry piece : List ℕ)
     (leaf : Option Innermost) (lines : List ValueAt) (at : ℕ) →
     IfSome leaf (λ l. leaf_in_string (tree_in C frames (leaf_type l)) l ≡ false) →
-    ends_in_string (stopped_with C frames carry piece leaf lines at) ≡ false
+    ends_in_string (read_unless_ended_with C frames carry piece leaf lines at) ≡ false
 stopped_silent C frames carry piece None lines at h = refl
 stopped_silent C frames carry piece (Some leaf) lines at h = search (
   arith,
@@ -82,9 +82,9 @@ without_name_twice false h = refl
 -- what is noted of a piece: a piece of a string, or one of octets, which are in no string
 piece_noted : (header : Bool) (T : Ty) (was more : Bool) (h : Noted) (path : List PathSegment)
     (at offset : ℕ) (octets : List ℕ) → (was ≡ true → is_text T ≡ true) →
-    noted header (without_name_if was h) (line at path (Piece T offset octets more) ∷ [])
+    note_lines header (without_name_if was h) (line at path (Piece T offset octets more) ∷ [])
     ≡ without_name_if (is_text T && more)
-    (noted header h (line at path (Piece T offset octets more) ∷ []))
+    (note_lines header h (line at path (Piece T offset octets more) ∷ []))
 piece_noted header (Text bound) true true h path at offset octets k = refl
 piece_noted header (Text bound) true false h path at offset octets k = refl
 piece_noted header (Text bound) false true h path at offset octets k = refl
@@ -115,8 +115,8 @@ output_noted : (header : Bool) (T : Ty) (was : Bool) (transition : Transition) (
     (path : List PathSegment) (at : ℕ) (piece : List ℕ) (lines : List ValueAt) (h : Noted) →
     OutputFitsString T was transition output → IsOutput T path at output piece lines →
     (was ≡ true → is_text T ≡ true) →
-    without_name_if (clears_name output) (noted header (without_name_if was h) lines)
-    ≡ without_name_if (transition_in_string T transition) (noted header h lines)
+    without_name_if (clears_name output) (note_lines header (without_name_if was h) lines)
+    ≡ without_name_if (transition_in_string T transition) (note_lines header h lines)
 output_noted header T was transition outputs.Nothing path at piece lines h v says k =
     rw (says, v) refl
 output_noted header T was transition outputs.Length path at piece lines h v says k = search (
@@ -138,8 +138,8 @@ pub noted_on : (header : Bool) (T : Ty) (leaf : Innermost) (transition : Transit
     (r : Read) → OutputFitsString T (leaf_in_string T leaf) transition output →
     IsOutput T path at output piece lines →
     ends_in_string r ≡ transition_in_string T transition → lines_of r ≡ lines →
-    without_name_if (clears_name output) (noted header (without_name_if (leaf_in_string T leaf)
-    (noted header nothing_noted front)) lines) ≡ noted_of header (with_front front r)
+    without_name_if (clears_name output) (note_lines header (without_name_if (leaf_in_string T leaf)
+    (note_lines header nothing_noted front)) lines) ≡ noted_of header (with_front front r)
 noted_on header T leaf transition output path at piece front lines r v says inside are = search
     (arith, output_noted, text_inside, front_inside, lines_front, noted-append)
 
@@ -152,7 +152,7 @@ pub silent_piece : (C : Table) (asked header : Bool) (T : Ty) (path : List PathS
     ((bound : Option ℕ) → shape_in T ≡ shapes.Text bound → ⊥) →
     ((bound : Option ℕ) → shape_in T ≡ shapes.Octets bound → header && is_key_path path ≡ false) →
     HoldsNoted C asked m h →
-    HoldsNoted C asked m (noted header h (line at path (Piece T offset octets more) ∷ []))
+    HoldsNoted C asked m (note_lines header h (line at path (Piece T offset octets more) ∷ []))
 silent_piece C asked header (Text bound) path at offset octets more h m other key held =
     absurd (other bound refl)
 silent_piece C asked header (Octets (Raw bound)) path at offset octets more h m other key held =
@@ -162,17 +162,18 @@ silent_piece C asked header (Octets WideChar) path at offset octets more h m oth
 silent_piece C asked header T path at offset octets more h m other key held = held
 
 -- If a table has no KEYs, nothing is held of a key, and no key has an interface.
-keyless : (C : Table) (so_far : List ℕ) → has_keys C ≡ false → held_key C so_far ≡ []
+keyless : (C : Table) (so_far : List ℕ) → has_keys C ≡ false → key_octets_held C so_far ≡ []
 keyless C [] none = refl
 keyless C (x ∷ so_far) none = rw none refl
 
 no_interface : (C : Table) (key : Option (List ℕ)) → ((k : List ℕ) → interface_in C k ≡ None) →
-    whose C key ≡ None
+    interface_of_key C key ≡ None
 no_interface C None none = refl
 no_interface C (Some key) none = none key
 
 still_whose : (C : Table) (asked : Bool) (i : Option InterfaceId) (before now : Option (List ℕ)) →
-    ((k : List ℕ) → interface_in C k ≡ None) → IsWhose C asked i before → IsWhose C asked i now
+    ((k : List ℕ) → interface_in C k ≡ None) → IsInterfaceOfKey C asked i before →
+    IsInterfaceOfKey C asked i now
 still_whose C true i before now none is =
     is ∙ (no_interface C before none ∙ sym (no_interface C now none))
 still_whose C false i before now none is = tt
@@ -192,7 +193,7 @@ keyless_noted C asked m h k same keys none held = record {
 keyless_octets : (C : Table) (asked header : Bool) (path : List PathSegment) (at offset : ℕ)
     (octets : List ℕ) (more : Bool) (h : Noted) (m : Notes) (bound : Option ℕ) →
     has_keys C ≡ false → ((key : List ℕ) → interface_in C key ≡ None) → HoldsNoted C asked m h →
-    HoldsNoted C asked m (noted header h
+    HoldsNoted C asked m (note_lines header h
     (line at path (Piece (Octets (Raw bound)) offset octets more) ∷ []))
 keyless_octets C asked header path at offset octets more h m bound =
     keyless_noted C asked m h _ (same_but_key (header && is_key_path path) h
@@ -202,10 +203,10 @@ pub keyless_piece : (C : Table) (asked header : Bool) (T : Ty) (path : List Path
     (at offset : ℕ) (octets : List ℕ) (more : Bool) (h : Noted) (m : Notes) (bound : Option ℕ) →
     HasShape T (shapes.Octets bound) → has_keys C ≡ false →
     ((key : List ℕ) → interface_in C key ≡ None) → HoldsNoted C asked m h →
-    HoldsNoted C asked m (noted header h (line at path (Piece T offset octets more) ∷ []))
+    HoldsNoted C asked m (note_lines header h (line at path (Piece T offset octets more) ∷ []))
 keyless_piece C asked header T path at offset octets more h m bound is keys none held =
     subst (λ U. HoldsNoted C asked m
-    (noted header h (line at path (Piece U offset octets more) ∷ []))) (sym is)
+    (note_lines header h (line at path (Piece U offset octets more) ∷ []))) (sym is)
     (keyless_octets C asked header path at offset octets more h m bound keys none held)
 
 pub unnamed_piece : (header : Bool) (T : Ty) (path : List PathSegment) (at offset : ℕ)
@@ -216,7 +217,7 @@ unnamed_piece header T path at offset octets more other = search (arith, and-fal
 
 -- the last piece of a string ends the string
 pub piece_last : (h : Noted) (octets : List ℕ) (more : Bool) → more ≡ false →
-    ended (with_piece h octets) ≡ noted_piece h octets more
+    with_string_ended (with_string_piece h octets) ≡ note_string_piece h octets more
 piece_last h octets more last = rw last refl
 
 -- a piece of an object key in two parts is one piece
@@ -226,20 +227,20 @@ key_both h held rest = search (arith, append_assoc)
 
 -- a piece of an object key: one that isn't the last, and the last one
 pub key_more : (h : Noted) (octets : List ℕ) (more : Bool) → may_have_key h ≡ true → more ≡ true →
-    with_key_piece h octets ≡ noted_key h octets more
+    with_key_piece h octets ≡ note_key_piece h octets more
 key_more h octets more may goes_on = rw (may, goes_on) refl
 
 pub key_last : (h : Noted) (octets : List ℕ) (more : Bool) → may_have_key h ≡ true →
-    more ≡ false → key_ended (with_key_piece h octets) ≡ noted_key h octets more
+    more ≡ false → with_key_ended (with_key_piece h octets) ≡ note_key_piece h octets more
 key_last h octets more may last = rw (may, last) refl
 
 -- a piece of a string in two parts is one piece
 pub piece_both : (h : Noted) (held rest : List ℕ) →
-    with_piece (with_piece h held) rest ≡ with_piece h (held ++ rest)
+    with_string_piece (with_string_piece h held) rest ≡ with_string_piece h (held ++ rest)
 piece_both h held rest = search (arith, append_assoc)
 
 pub piece_more : (h : Noted) (octets : List ℕ) (more : Bool) → more ≡ true →
-    with_piece h octets ≡ noted_piece h octets more
+    with_string_piece h octets ≡ note_string_piece h octets more
 piece_more h octets more e = rw e refl
 
 -- only a part with one part around it is a member of the root
@@ -315,7 +316,7 @@ same_id false path tag h value = refl
 
 pub switch_noted : (header : Bool) (path : List PathSegment) (tag : Option (List ℕ)) (h : Noted)
     (scalar : Scalar) (n at : ℕ) →
-    note_value false h (Number scalar n) ≡ note header h
+    note_value false h (Number scalar n) ≡ note_line header h
     (line at (path ++ Switch tag ∷ []) (Number scalar n))
 switch_noted header path tag h scalar n at =
     same_id header path tag h (Number scalar n)

@@ -2,7 +2,7 @@
 use Rattle.std.proofs.Common.{arith, ◌≡◌, ℕ, zero, suc, ◌+◌, true, List, [], ◌∷◌, ◌++◌, length, take, drop, refl, sym, ap, ◌∙◌, append_assoc, true≢false}
 use Rattle.std.specs.Prelude.{flat_map}
 use Rattle.std.proofs.lemmas.List.{take-append-drop}
-use Rattle.giop_decode.specs.NotedFromLines.{TextPiece, AreUnended, piece, cut_from, pieces_of}
+use Rattle.giop_decode.specs.NotedFromLines.{TextPiece, AreUnended, piece, pieces_from, pieces_of}
 use Rattle.giop_decode.specs.Pieces.{full_pieces}
 
 -- equal lists have equal first elements and equal rests
@@ -10,21 +10,21 @@ heads : (p q : TextPiece) (ps qs : List TextPiece) → p ∷ ps ≡ q ∷ qs →
 heads p q ps qs e = (cc, cc)
 
 cut_one : (full full' offset : ℕ) (c d : List ℕ) (xs ys : List TextPiece) →
-    cut_from full offset c ++ xs ≡ cut_from full' offset d ++ ys → (c ≡ d) × (xs ≡ ys)
+    pieces_from full offset c ++ xs ≡ pieces_from full' offset d ++ ys → (c ≡ d) × (xs ≡ ys)
 cut_one zero zero offset c d xs ys e = search (arith, heads)
 cut_one zero (suc full') offset c d xs ys e = search (arith, heads, take, drop, true≢false)
 cut_one (suc full) zero offset c d xs ys e = search (arith, heads, take, drop, true≢false)
 cut_one (suc full) (suc full') offset c d xs ys e =
     let h = heads (piece offset (take 32 c) true) (piece offset (take 32 d) true)
-    (cut_from full (offset + 32) (drop 32 c) ++ xs)
-    (cut_from full' (offset + 32) (drop 32 d) ++ ys) e in
+    (pieces_from full (offset + 32) (drop 32 c) ++ xs)
+    (pieces_from full' (offset + 32) (drop 32 d) ++ ys) e in
     let front : take 32 c ≡ take 32 d = ap (λ (p : TextPiece). p.octets) h.0 in
     let rest = cut_one full full' (offset + 32) (drop 32 c) (drop 32 d) xs ys h.1 in
     (sym (take-append-drop 32 c) ∙ (rw (front, rest.0) (take-append-drop 32 d)), rest.1)
 
 -- a whole content has a last piece
 cut_ends : (full offset : ℕ) (c : List ℕ) (xs : List TextPiece) →
-    AreUnended (cut_from full offset c ++ xs) → ⊥
+    AreUnended (pieces_from full offset c ++ xs) → ⊥
 cut_ends zero offset c xs h = true≢false (sym h.0)
 cut_ends (suc full) offset c xs h = cut_ends full (offset + 32) (drop 32 c) xs h.1
 

@@ -4,16 +4,16 @@ use Rattle.giop_decode.specs.declared.decoder.Decoder.{Decoder}
 use Rattle.giop_decode.specs.declared.leaf.Step.{Step}
 use Rattle.giop_decode.specs.declared.progress.Progress.{Progress}
 use Rattle.giop_decode.specs.declared.progress.Progress.TheVariants as progress
-use Rattle.giop_decode.specs.SeenState.{AreOfRoot, CanStandAt, Fits, GoesOn, IsDone, Reads}
+use Rattle.giop_decode.specs.SeenState.{NotesFitRoot, CanStandAt, Fits, GoesOn, IsDone, Reads}
 use Rattle.giop_decode.specs.DecoderSteps.{decoder_step}
-use Rattle.giop_decode.specs.NameBuffer.{FitsName, string_offset}
-use Rattle.giop_decode.specs.Passes.{Gives, Passes}
+use Rattle.giop_decode.specs.NameBuffer.{NameBufferFits, string_offset}
+use Rattle.giop_decode.specs.Passes.{AreStepLines, NotesAndAdvances}
 use Rattle.giop_decode.specs.ReadResult.{Coding, ValueAt}
 use Rattle.giop_decode.specs.Runs.{TakenTogether, TakesSome}
 use Rattle.giop_decode.specs.Spelling.{lines_text}
 use Rattle.giop_decode.specs.Transitions.{Link, leaf_type, tree_in}
 use Rattle.giop_decode.proofs.Advancing.{goes, own_coding, own_stands, step_fits}
-use Rattle.giop_decode.proofs.SoFar.{AllSay, AllTake, TakenSoFar, gathered_so_far, step_says, then_one, then_one_broken}
+use Rattle.giop_decode.proofs.FirstTaken.{NextLinesSatisfy, TakesNextOctet, HasTakenFirst, gathered_so_far, step_says, then_one, then_one_broken}
 use Rattle.giop_decode.proofs.Taking.{done, takes_to}
 use Rattle.giop_decode.proofs.Whole.{IsAtLast, before_last, fits_then, gathered_whole, keeps_noted_whole, lines_at, lines_whole, name_whole, same_type, says_at, stands_then, told_whole}
 use Rattle.giop_print.specs.Output.{OutLog, Wrote, WroteFront}
@@ -33,11 +33,11 @@ module _ (C : Table) (d : Decoder) (octets : List ℕ) (of : TypeId) (count : �
   abbrev before : Decoder
   before = before_last C d octets of count step rest f m h on
 
-  abbrev lines : Coding → ℕ → List ValueAt
+  abbrev lines : (coding : Coding) (here : ℕ) → List ValueAt
   lines coding here = lines_at C d octets of count step rest f m h on coding here
 
   abbrev says : (coding : Coding) (here : ℕ) →
-      Gives C m of.0 step rest here (here + 1) (lines coding here)
+      AreStepLines C m of.0 step rest here (here + 1) (lines coding here)
   says coding here = says_at C d octets of count step rest f m h on coding here
 
   abbrev fits_before : Fits C before
@@ -59,25 +59,26 @@ module _ (C : Table) (d : Decoder) (octets : List ℕ) (of : TypeId) (count : �
   below = search (arith)
 
   -- all octets but the last are taken
-  pub before_so_far : (a : OutLog) → TakenSoFar C d before octets (count - 1) a a
+  pub before_so_far : (a : OutLog) → HasTakenFirst C d before octets (count - 1) a a
   before_so_far a =
       gathered_so_far C d before octets (count - 1) a (let b = below in omega (arith, b))
       fits_before
       (gathered_whole C d octets of count step rest f m h on).1
 
   pub last_says : (Says : List ℕ → Type 0) →
-      ((here at : ℕ) (lines : List ValueAt) → Gives C m of.0 step rest here at lines →
-      Says (lines_text m.head.message m.head.root lines)) → AllSay C d octets (count - 1) Says
+      ((here at : ℕ) (lines : List ValueAt) → AreStepLines C m of.0 step rest here at lines →
+      Says (lines_text m.head.message m.head.root lines)) →
+      NextLinesSatisfy C d octets (count - 1) Says
   last_says Says w =
       step_says C d before octets (count - 1) fits_before reads_before Says (λ coding here stands.
       rw (lines_whole C d octets of count step rest f m h on coding here stands)
       (w here (here + 1) (lines coding here) (says coding here)))
 
-  module _ (new : Decoder) (p : Progress) (e : Passes C m new of.0 step rest p) where
-    pub last_takes : AllTake C d new octets (count - 1) p
+  module _ (new : Decoder) (p : Progress) (e : NotesAndAdvances C m new of.0 step rest p) where
+    pub last_takes : TakesNextOctet C d new octets (count - 1) p
     last_takes T coding at message root s r =
         takes_to C T coding at message root before new (s ++ take (count - 1) octets) octet p
-        fits_before e.head e.narrow
+        fits_before e.head e.forbids_wide
         (λ here stands. e.here coding here (stands_m coding here stands))
         (λ here stands.
         rw (told_whole C d octets of count step rest f m h on coding here stands)
@@ -106,13 +107,13 @@ module _ (C : Table) (d : Decoder) (octets : List ℕ) (of : TypeId) (count : �
         let link : Link C g.root m.outer.items of.0 =
         let same = same_type C d octets of count step rest f m h on in
         subst (Link C g.root m.outer.items) same g.link in
-        step_fits C before new g octet own k (e.narrow ∙ g.narrow)
+        step_fits C before new g octet own k (e.forbids_wide ∙ g.forbids_wide)
         (e.here own g.here (stands_m own g.here stands)) next.ahead
         next.inside
         (next.link g.root k.leaf link k.goes_on) next.known_outer (next.known k.leaf k.goes_on)
         (next.clean k.leaf k.goes_on)
-        (subst (λ h. AreOfRoot C h.root new.notes) (sym e.head) (e.of_root g.of_root))
-        (subst (λ r. FitsName r (string_offset (tree_in C new.outer.items (leaf_type k.leaf))
+        (subst (λ h. NotesFitRoot C h.root new.notes) (sym e.head) (e.of_root g.of_root))
+        (subst (λ r. NameBufferFits r (string_offset (tree_in C new.outer.items (leaf_type k.leaf))
         k.leaf)
         new.notes.buffer new.notes.name.items) (sym (ap (λ h. h.root) e.head))
         (name_whole C d octets of count step rest f m h on own g.here _ new.notes next.going
@@ -120,7 +121,8 @@ module _ (C : Table) (d : Decoder) (octets : List ℕ) (of : TypeId) (count : �
         (λ o held. e.notes false o g.here (g.here + 1) (lines own g.here) held
         (says own g.here))))
 
-    pub passed_some : {E : Type 0} (a c : OutLog) → AllSay C d octets (count - 1) (Wrote a c) →
+    pub passed_some : {E : Type 0} (a c : OutLog) →
+        NextLinesSatisfy C d octets (count - 1) (Wrote a c) →
         TakesSome {E = E} C d new octets a c (Ok (count, p))
     passed_some {E = E} a c said =
         let all : count - 1 + 1 ≡ count = omega (arith, h.some) in
@@ -129,6 +131,7 @@ module _ (C : Table) (d : Decoder) (octets : List ℕ) (of : TypeId) (count : �
         last_fits last_done)
 
   pub passed_broken : {E : Type 0} (r : Result (ℕ × Progress) E) (new : Decoder) (a c : OutLog) →
-      IsErr r → AllSay C d octets (count - 1) (WroteFront a c) → TakesSome C d new octets a c r
+      IsErr r → NextLinesSatisfy C d octets (count - 1) (WroteFront a c) →
+      TakesSome C d new octets a c r
   passed_broken r new a c is said =
       then_one_broken C d before octets (count - 1) a a (before_so_far a) new c r is below said

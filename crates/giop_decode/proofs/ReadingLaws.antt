@@ -7,7 +7,7 @@ use Rattle.giop_cdr.specs.declared.order.Order.{Order}
 use Rattle.giop_print.specs.declared.path.Root.{Root}
 use Rattle.giop_sig.specs.Fits.{IsFit}
 use Rattle.giop_sig.specs.Table.{Table, seen}
-use Rattle.giop_decode.specs.Transitions.{IsWithin}
+use Rattle.giop_decode.specs.Transitions.{FrameIndexFits}
 use Rattle.giop_sig.specs.HeaderTypes.{IsTable}
 use Rattle.giop_sig.specs.Trees.{catalogue_depth, tree_at}
 use Rattle.giop_sig.specs.Types.{Scalar, Ty, part_of, width}
@@ -17,11 +17,11 @@ use Rattle.giop_decode.specs.ReadResult.{Coding, PathSegment, Switch, ValueAt, O
 use Rattle.giop_decode.specs.Pieces.{Partial, block, number}
 use Rattle.giop_decode.proofs.Rooms as rooms
 use Rattle.giop_decode.proofs.Rooted as rooted
-use Rattle.giop_decode.specs.Reading.{cut_off, parts_from, read, reading, rest_of}
+use Rattle.giop_decode.specs.Reading.{type_at_cut, parts_from, read, reading, encapsulation_rest}
 use Rattle.giop_decode.specs.Begins.{start_outer, start_leaf}
-use Rattle.giop_decode.specs.ReadingSteps.{IsOctetResult, IsEmptyResult, advance, part_at, resumed, step, root_advance, root_step}
-use Rattle.giop_decode.specs.Fits.{HasParts, Sound}
-use Rattle.giop_decode.specs.Noted.{Noted, noted, in_content, ends_in_string, is_member, is_text}
+use Rattle.giop_decode.specs.ReadingSteps.{IsOctetResult, IsEmptyResult, read_after_octet, part_at, resume_part, step, root_after_octet, root_step}
+use Rattle.giop_decode.specs.Fits.{HasParts, IsSoundReading}
+use Rattle.giop_decode.specs.Noted.{Noted, note_lines, in_string_content, ends_in_string, is_member, is_text}
 use Rattle.giop_decode.specs.Runs.{added_lines_of_run}
 use Rattle.giop_decode.specs.Spelling.{lines_text}
 use Rattle.giop_decode.proofs.Codings as codings
@@ -38,7 +38,7 @@ use Rattle.giop_decode.proofs.Versions as versions
 
 -- The laws of `reading_laws`: one more octet is one step;
 pub read_goes : (coding : Coding) (path : List PathSegment) (T : Ty) (at : ℕ) (s : List ℕ) (b : ℕ) →
-    read coding path T at (s ++ b ∷ []) ≡ advance coding path (read coding path T at s) b
+    read coding path T at (s ++ b ∷ []) ≡ read_after_octet coding path (read coding path T at s) b
 read_goes coding path T at s b = enclosing.read_goes coding path T at s b
 
 -- a step has at most one line, which is at its octet;
@@ -49,7 +49,7 @@ step_now coding path outer leaf at b = now.step_now coding path outer leaf at b
 
 -- the parts that have begun fit into the type.
 pub read_keeps : (d : ℕ) (coding : Coding) (path : List PathSegment) (T : Ty) → IsFit d T →
-    (at : ℕ) (s : List ℕ) → Sound T (at + length s) (read coding path T at s)
+    (at : ℕ) (s : List ℕ) → IsSoundReading T (at + length s) (read coding path T at s)
 read_keeps d coding path T fit at s = sound.read_keeps d coding path T fit at s
 
 -- Lines before a reading, and what is noted of them.
@@ -59,7 +59,7 @@ pub lines_front : (front : List ValueAt) (r : Read) →
 lines_front front r = resuming.lines_front front r
 
 pub noted-append : (header : Bool) (h : Noted) (xs ys : List ValueAt) →
-    noted header h (xs ++ ys) ≡ noted header (noted header h xs) ys
+    note_lines header h (xs ++ ys) ≡ note_lines header (note_lines header h xs) ys
 noted-append header h xs ys = resuming.noted-append header h xs ys
 
 pub front_inside : (front : List ValueAt) (r : Read) →
@@ -72,7 +72,7 @@ pub now_within : (n : ℕ) (place : OpenPart) (r : Read) → IsOctetResult n r �
 now_within n place r h = now.now_within n place r h
 
 -- the type that an encapsulation's end cuts off inside a string is a string
-pub cut_inside : (leaf : Leaf) → is_text (cut_off leaf) ≡ in_content leaf
+pub cut_inside : (leaf : Leaf) → is_text (type_at_cut leaf) ≡ in_string_content leaf
 cut_inside leaf = hearing.cut_inside leaf
 
 -- a discriminator is no member
@@ -88,7 +88,7 @@ read_quiet coding path T n = now.read_quiet coding path T n
 
 -- nor of what is left of an encapsulation
 pub rest_quiet : (n : ℕ) (path : List PathSegment) (T : Ty) (k : ℕ) →
-    IsEmptyResult n (rest_of path T k n [])
+    IsEmptyResult n (encapsulation_rest path T k n [])
 rest_quiet n path T k = now.rest_quiet n path T k
 
 pub quiet_within : (n : ℕ) (place : OpenPart) (r : Read) → IsEmptyResult n r →
@@ -122,7 +122,7 @@ block_waits n at s h = law.block_waits n at s h
 -- When a part has ended and another part follows it, that other part begins.
 pub next_part : (coding : Coding) (path : List PathSegment) (d : ℕ) (T : Ty) (i count at : ℕ) →
     IsFit (suc d) T → HasParts T count → suc i < count →
-    resumed coding path (Part T i count) (Done [] at [])
+    resume_part coding path (Part T i count) (Done [] at [])
     ≡ Short [] at (Part T (suc i) count ∷ start_outer (part_of T (suc i)))
     (start_leaf (part_of T (suc i)))
 next_part coding path d T i count at fit kind below =
@@ -154,18 +154,18 @@ text_both message root coding T at s xs ys = runs.text_both message root coding 
 pub fits_depth : (C : Table) (d : Decoder) → IsTable C → Fits C d →
     length d.outer.items < catalogue_depth C
 fits_depth C d laws fits =
-    depths.fits_depth (seen d.narrow C) d (versions.table_seen d.narrow C laws) fits
+    depths.fits_depth (seen d.forbids_wide C) d (versions.table_seen d.forbids_wide C laws) fits
 
 -- a frame that is at a part of a type in one room is at a part of it in each room
 pub within_in_room : (C : Table) (a b of : ℕ) (inside : Option Order) (i count : ℕ) →
-    IsWithin inside i count (tree_at C a of) → IsWithin inside i count (tree_at C b of)
+    FrameIndexFits inside i count (tree_at C a of) → FrameIndexFits inside i count (tree_at C b of)
 within_in_room C a b of inside i count h = rooms.within_in_room C a b of inside i count h
 
 -- ---- reading a whole
 
 pub reading_goes : (coding : Coding) (path : List PathSegment) (T : Ty) (at : ℕ) (s : List ℕ)
     (b : ℕ) → reading coding path T at (s ++ b ∷ [])
-    ≡ root_advance coding path (reading coding path T at s) b
+    ≡ root_after_octet coding path (reading coding path T at s) b
 reading_goes coding path T at s b = enclosing.reading_goes coding path T at s b
 
 pub root_now : (coding : Coding) (path : List PathSegment) (outer : List OpenPart) (leaf : Leaf)
@@ -173,7 +173,7 @@ pub root_now : (coding : Coding) (path : List PathSegment) (outer : List OpenPar
 root_now coding path outer leaf at b = rooted.whole_now coding path outer leaf at b
 
 pub reading_keeps : (d : ℕ) (coding : Coding) (path : List PathSegment) (T : Ty) → IsFit d T →
-    (at : ℕ) (s : List ℕ) → Sound T (at + length s) (reading coding path T at s)
+    (at : ℕ) (s : List ℕ) → IsSoundReading T (at + length s) (reading coding path T at s)
 reading_keeps d coding path T fit at s = rooted.whole_keeps d coding path T at s fit
 
 pub reading_quiet : (coding : Coding) (path : List PathSegment) (T : Ty) (n : ℕ) →

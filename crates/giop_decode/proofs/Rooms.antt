@@ -4,7 +4,7 @@ use Rattle.giop_decode.specs.declared.frame.Frame.{Frame}
 use Rattle.giop_decode.specs.declared.frame.Stage.{Stage}
 use Rattle.giop_cdr.specs.declared.number.Number.{Number as Taken}
 use Rattle.giop_decode.specs.Fits.{HasLeadingNumber, HasParts, IsEncapsulation, IsLed}
-use Rattle.giop_decode.specs.Transitions.{IsNumberOf, IsUncounted, IsWhole, IsWithin, IsWithinAs}
+use Rattle.giop_decode.specs.Transitions.{IsNumberOf, IsUncounted, StartsWithPart, FrameIndexFits, FrameIndexFitsAs}
 use Rattle.giop_cdr.specs.declared.order.Order.{Order}
 use Rattle.giop_sig.proofs.PartLaws.{fit_room, has_shape_room, shape_room, switch_same}
 use Rattle.giop_sig.specs.Fits.{IsFit}
@@ -60,7 +60,7 @@ bare_in_room C a of none is = none (union_in_room C 24 a of is)
 -- A type is no union if it begins with its first part, if it has a number of parts, if it is an
 -- encapsulation, or if it begins with a part that tells what comes after it.
 
-pub whole_bare : (T : Ty) (count : ℕ) (told : Option Stage) → IsWhole T count told →
+pub whole_bare : (T : Ty) (count : ℕ) (told : Option Stage) → StartsWithPart T count told →
     IsUnion (shape_in T) → ⊥
 whole_bare (Struct n names parts) count told is union = union
 whole_bare (Array n T) count told is union = union
@@ -88,7 +88,7 @@ uncounted shapes.Tagged is = tt
 uncounted s is = absurd is
 
 -- nor is it a union if its parts are counted
-pub counted_bare : (T : Ty) (i count : ℕ) → IsWithin None i count T → 0 < count →
+pub counted_bare : (T : Ty) (i count : ℕ) → FrameIndexFits None i count T → 0 < count →
     IsUnion (shape_in T) → ⊥
 counted_bare T i count within some union =
     let e = within.2 (uncounted (shape_in T) union) in absurd (omega (arith, some, e))
@@ -138,7 +138,7 @@ begins_in_room C a b of h =
 
 -- so a frame that is at a part of a type in one room is at a part of it in each room
 pub within_in_room : (C : Table) (a b of : ℕ) (inside : Option Order) (i count : ℕ) →
-    IsWithin inside i count (tree_at C a of) → IsWithin inside i count (tree_at C b of)
+    FrameIndexFits inside i count (tree_at C a of) → FrameIndexFits inside i count (tree_at C b of)
 within_in_room C a b of None i count h = (
   place_in_room C a b of i h.0,
   λ kind. h.1 (held_in_room C b a of kind),
@@ -160,8 +160,8 @@ led_in_room C a b of kind = has_led (tree_at C b of)
     (has_shape_room C a b of shapes.Led (led_has (tree_at C a of) kind))
 
 pub within_as_in_room : (C : Table) (a b of : ℕ) (told : Option Stage) (inside : Option Order)
-    (i count : ℕ) → IsWithinAs told inside i count (tree_at C a of) →
-    IsWithinAs told inside i count (tree_at C b of)
+    (i count : ℕ) → FrameIndexFitsAs told inside i count (tree_at C a of) →
+    FrameIndexFitsAs told inside i count (tree_at C b of)
 within_as_in_room C a b of None inside i count h = within_in_room C a b of inside i count h
 within_as_in_room C a b of (Some stage) inside i count h = (led_in_room C a b of h.0, h.1, h.2)
 

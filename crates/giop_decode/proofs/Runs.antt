@@ -9,7 +9,7 @@ use Rattle.giop_decode.specs.ReadResult.{Coding, ValueAt, lines_of}
 use Rattle.giop_decode.specs.Reading.{reading}
 use Rattle.giop_decode.specs.declared.decoder.Decoder.{Decoder}
 use Rattle.giop_decode.specs.SeenState.{Reads, Takes, added_lines}
-use Rattle.giop_decode.specs.Runs.{added_lines_of_run, AreAnswered, TakesRun, BreaksOff, WritesRun}
+use Rattle.giop_decode.specs.Runs.{added_lines_of_run, AreAnswersToOctets, TakesRun, BreaksOff, WritesRun}
 use Rattle.giop_decode.specs.Spelling.{lines_text}
 use Rattle.giop_decode.proofs.Rooted.{whole_lines}
 use Rattle.giop_print.proofs.Writing.{wrote-front}
@@ -66,16 +66,17 @@ text_both message root coding T at s xs ys = search (arith, dues_both, lines_tex
 -- ---- the answers to a run
 
 pub answered_both : (coding : Coding) (T : Ty) (at : ℕ) (root : Root) (s xs ys : List ℕ)
-    (p : Progress) → AreAnswered coding T at root s xs progress.More →
-    AreAnswered coding T at root (s ++ xs) ys p → AreAnswered coding T at root s (xs ++ ys) p
+    (p : Progress) → AreAnswersToOctets coding T at root s xs progress.More →
+    AreAnswersToOctets coding T at root (s ++ xs) ys p →
+    AreAnswersToOctets coding T at root s (xs ++ ys) p
 answered_both coding T at root s [] ys p h k = search (arith, append-nil)
 answered_both coding T at root s (x ∷ []) [] p h k = search (arith)
 answered_both coding T at root s (x ∷ []) (y ∷ ys) p h k = (h, k)
 answered_both coding T at root s (x ∷ x' ∷ xs) ys p h k = (
   h.0,
   answered_both coding T at root (s ++ x ∷ []) (x' ∷ xs) ys p h.1
-      (subst (λ z. AreAnswered coding T at root z ys p) (sym (append_assoc s (x ∷ []) (x' ∷ xs)))
-      k),
+      (subst (λ z. AreAnswersToOctets coding T at root z ys p)
+      (sym (append_assoc s (x ∷ []) (x' ∷ xs))) k),
 )
 
 pub takes_one : (C : Table) (T : Ty) (coding : Coding) (at message : ℕ) (root : Root) (d : Decoder)
@@ -84,7 +85,7 @@ pub takes_one : (C : Table) (T : Ty) (coding : Coding) (at message : ℕ) (root 
 takes_one C T coding at message root d s octet p t = search (arith)
 
 pub takes_both : (C : Table) (T : Ty) (coding : Coding) (at message : ℕ) (root : Root) (d : Decoder)
-    (s xs ys : List ℕ) (p : Progress) → AreAnswered coding T at root s xs progress.More →
+    (s xs ys : List ℕ) (p : Progress) → AreAnswersToOctets coding T at root s xs progress.More →
     TakesRun C T coding at message root d (s ++ xs) ys p →
     TakesRun C T coding at message root d s (xs ++ ys) p
 takes_both C T coding at message root d s xs ys p h t = search (arith, append_assoc, answered_both)
@@ -105,7 +106,7 @@ text_more message root coding T at s octets i h = search (arith, take_more, text
 
 pub takes_more : (C : Table) (T : Ty) (coding : Coding) (at message : ℕ) (root : Root) (d : Decoder)
     (s octets : List ℕ) (i : ℕ) (p : Progress) → i < length octets →
-    AreAnswered coding T at root s (take i octets) progress.More →
+    AreAnswersToOctets coding T at root s (take i octets) progress.More →
     Takes C T coding at message root d (s ++ take i octets) (get_or octets i 0) p →
     TakesRun C T coding at message root d s (take (i + 1) octets) p
 takes_more C T coding at message root d s octets i p below h t = search (
@@ -119,7 +120,7 @@ takes_more C T coding at message root d s octets i p below h t = search (
 
 pub breaks_off : (T : Ty) (coding : Coding) (at message : ℕ) (root : Root) (s octets : List ℕ)
     (i : ℕ) (a b c : OutLog) → i < length octets →
-    AreAnswered coding T at root s (take i octets) progress.More →
+    AreAnswersToOctets coding T at root s (take i octets) progress.More →
     Wrote a b (lines_text message root (added_lines_of_run coding T at s (take i octets))) →
     WroteFront b c (lines_text message root (added_lines coding T at (s ++ take i octets)
     (get_or octets i 0))) → BreaksOff T coding at message root s octets a c
@@ -189,7 +190,7 @@ takes_near (Err v) C old new near octets e within h = tt
 -- ---- two runs, one after the other
 
 pub breaks_both : (T : Ty) (coding : Coding) (at message : ℕ) (root : Root) (s xs ys : List ℕ)
-    (a b c : OutLog) → AreAnswered coding T at root s xs progress.More →
+    (a b c : OutLog) → AreAnswersToOctets coding T at root s xs progress.More →
     Wrote a b (lines_text message root (added_lines_of_run coding T at s xs)) →
     BreaksOff T coding at message root (s ++ xs) ys b c →
     BreaksOff T coding at message root s (xs ++ ys) a c

@@ -5,19 +5,19 @@ use Rattle.giop_cdr.specs.Primitives.{size_of}
 use Rattle.giop_cdr.specs.declared.prim.Primitive.{Primitive}
 use Rattle.giop_cdr.specs.declared.prim.Primitive.TheVariants as prims
 use Rattle.giop_decode.specs.Fits.{HasLeadingNumber}
-use Rattle.giop_decode.specs.Transitions.{IsWhole}
+use Rattle.giop_decode.specs.Transitions.{StartsWithPart}
 use Rattle.giop_sig.specs.Fits.{IsEmptyStruct}
 use Rattle.giop_sig.specs.Types.{Ty, Struct, HasShape}
 use Rattle.giop_sig.specs.declared.types.Shape.TheVariants as shapes
 use Rattle.giop_decode.specs.declared.frame.Stage.TheVariants as stages
 
-pub whole_members : (T : Ty) (n : ℕ) → HasShape T (shapes.Members n) → IsWhole T n None
+pub whole_members : (T : Ty) (n : ℕ) → HasShape T (shapes.Members n) → StartsWithPart T n None
 whole_members T n h = rw h.2 (refl, refl)
 
-pub whole_array : (T : Ty) (n : ℕ) → HasShape T (shapes.Array n) → IsWhole T n None
+pub whole_array : (T : Ty) (n : ℕ) → HasShape T (shapes.Array n) → StartsWithPart T n None
 whole_array T n h = rw h.1 (refl, refl)
 
-pub whole_led : (T : Ty) → HasShape T shapes.Led → IsWhole T 0 (Some stages.Untold)
+pub whole_led : (T : Ty) → HasShape T shapes.Led → StartsWithPart T 0 (Some stages.Untold)
 whole_led T h = rw h.3 (refl, refl)
 
 pub head_prim : (T : Ty) (p : Primitive) → HasShape T (shapes.Prim p) → HasLeadingNumber T

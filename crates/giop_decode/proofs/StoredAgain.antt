@@ -5,17 +5,17 @@ use Rattle.giop_decode.specs.declared.leaf.Leaf.{Leaf as Innermost}
 use Rattle.giop_decode.specs.declared.notes.Buffer.{Buffer}
 use Rattle.giop_decode.specs.declared.notes.Buffer.TheVariants as buffers
 use Rattle.giop_decode.specs.declared.notes.Notes.{Notes}
-use Rattle.giop_decode.specs.NameBuffer.{FitsName}
+use Rattle.giop_decode.specs.NameBuffer.{NameBufferFits}
 use Rattle.giop_decode.specs.Noted.{Noted}
-use Rattle.giop_decode.specs.SeenState.{Fits, IsHeld, KeepsNoted, Reads, HoldsNoted, read_by_fields}
+use Rattle.giop_decode.specs.SeenState.{Fits, BufferHolds, KeepsNoted, Reads, HoldsNoted, read_by_fields}
 use Rattle.giop_decode.specs.ReadResult.{Coding, ValueAt, Read}
-use Rattle.giop_decode.specs.Stored.{IsKept, IsRestored, Stored, fixed_octets, kept_name}
+use Rattle.giop_decode.specs.Stored.{AreSavedNotes, IsRestored, Stored, saved_fixed, saved_name}
 use Rattle.giop_print.specs.declared.path.Root.{Root}
 use Rattle.giop_sig.specs.Table.{Table}
 use Rattle.giop_sig.specs.Types.{Ty}
 
 kept_fits : (root : Root) (at : Option ℕ) (b : Buffer) (octets : List ℕ) →
-    FitsName root at b octets → FitsName root at b (kept_name b octets)
+    NameBufferFits root at b octets → NameBufferFits root at b (saved_name b octets)
 kept_fits root None buffers.TooLong octets fits = fits
 kept_fits root (Some offset) buffers.TooLong octets fits = (fits.0, refl)
 kept_fits root at buffers.Begun octets fits = fits
@@ -30,12 +30,12 @@ restored_fits C d e r h = search (arith, kept_fits)
 -- ---- readings
 
 kept_held : (b : Buffer) (octets so_far key : List ℕ) (name : Option (List ℕ)) →
-    IsHeld b octets name so_far key → IsHeld b (kept_name b octets) name so_far key
+    BufferHolds b octets name so_far key → BufferHolds b (saved_name b octets) name so_far key
 kept_held buffers.TooLong octets so_far key name held = (held.0, refl, held.2, held.3)
 kept_held buffers.LongKey octets so_far key name held = (held.0, held.1, refl, held.3)
 kept_held buffer octets so_far key name held = held
 
-recalls_again : (C : Table) (m n : Notes) (h : Noted) → IsKept m n → HoldsNoted C true m h →
+recalls_again : (C : Table) (m n : Notes) (h : Noted) → AreSavedNotes m n → HoldsNoted C true m h →
     HoldsNoted C true n h
 recalls_again C m n h kept recalls = search (arith, kept_held)
 
@@ -58,14 +58,14 @@ restored_reads C d e T coding at message root s r reads = search (
 
 -- ---- octets
 
-kept_again : (b : Buffer) (name : List ℕ) → kept_name b (kept_name b name) ≡ kept_name b name
+kept_again : (b : Buffer) (name : List ℕ) → saved_name b (saved_name b name) ≡ saved_name b name
 kept_again buffers.Begun name = refl
 kept_again buffers.Key name = refl
 kept_again buffer name = refl
 
 fixed_again : (d e : Decoder) (leaf : Innermost) → IsRestored d e →
-    fixed_octets e leaf ≡ fixed_octets d leaf
-unfolding fixed_octets
+    saved_fixed e leaf ≡ saved_fixed d leaf
+unfolding saved_fixed
 fixed_again d e leaf r = search (arith, kept_again)
 
 -- both decoders are stored in the same octets

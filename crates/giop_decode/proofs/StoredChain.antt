@@ -8,22 +8,22 @@ use Rattle.giop_decode.specs.declared.decoder.Decoder.{Decoder}
 use Rattle.giop_decode.specs.declared.frame.Frame.{Frame}
 use Rattle.giop_decode.specs.declared.frame.Stage.{Stage}
 use Rattle.giop_decode.specs.declared.leaf.Leaf.{Leaf as Innermost}
-use Rattle.giop_decode.specs.FrameChain.{HasFrame, HasFrameAs, HasPart, LeafFits, Chained, Chains, root_of}
+use Rattle.giop_decode.specs.FrameChain.{HasFrame, HasFrameAs, HasPart, LeafFits, FramesChain, FitsCatalogue, root_of}
 use Rattle.giop_decode.specs.Fits.{CanFollow, FitsIn, HasCase, IsEncapsulation}
 use Rattle.giop_decode.specs.SeenState.{Fits}
 use Rattle.giop_decode.specs.ReadResult.{OpenPart, Leaf}
-use Rattle.giop_decode.specs.Transitions.{IsUncounted, parts_in_room, part_as, part_in, part_index, open_part_in, HaveOctetsLeft, AreKnown, IsWithin, IsWithinAs, Link, LinkIn, StandAt, leaf_by, leaf_type}
+use Rattle.giop_decode.specs.Transitions.{IsUncounted, parts_in_room, part_as, part_in, part_index, open_part_in, HaveOctetsLeft, AreKnown, FrameIndexFits, FrameIndexFitsAs, Link, LinkIn, StandAt, leaf_by, leaf_type}
 use Rattle.giop_decode.proofs.Around.{fit_room}
 use Rattle.giop_decode.proofs.Going.{length_places}
 use Rattle.giop_decode.proofs.Starting.{fit_some}
 use Rattle.giop_decode.proofs.Leaving.{leaf_at}
 use Rattle.giop_sig.specs.Fits.{IsFit, IsEmptyStruct}
 use Rattle.giop_sig.specs.HeaderTypes.{IsTable}
-use Rattle.giop_sig.specs.Hearings.{hearing_in}
+use Rattle.giop_sig.specs.Hearings.{inference_in}
 use Rattle.giop_sig.specs.Table.{Table}
-use Rattle.giop_sig.specs.Trees.{follows, part_number_in, tree, tree_at}
+use Rattle.giop_sig.specs.Trees.{can_be_value, part_number_in, tree, tree_at}
 use Rattle.giop_decode.proofs.Rooms.{place_in_room, within_as_in_room}
-use Rattle.giop_sig.specs.Types.{Cases, Tag, Encapsulation, Enum, Marked, Plain, Ty, Single, Text, Octets, Struct, Union, Sequence, Array, HasIndex, HasShape, Hearing, Is, Recursive, elements_fit, part_of, shape_in, Led}
+use Rattle.giop_sig.specs.Types.{Cases, Tag, Encapsulation, Enum, Marked, Plain, Ty, Single, Text, Octets, Struct, Union, Sequence, Array, HasIndex, HasShape, TypeInference, Is, Recursive, elements_fit, part_of, shape_in, Led}
 use Rattle.giop_sig.specs.declared.types.Shape.TheVariants as shapes
 use Rattle.giop_sig.proofs.HearingLaws.{follows_known, follows_led, led_follows}
 use Rattle.giop_sig.proofs.PartLaws.{part_in_is, part_in_known, root_is, shape_room}
@@ -87,7 +87,7 @@ frame_place None T i count has = part_place T i count has
 frame_place (Some order) T i count has = inside_place T 0 has.0
 
 frame_within : (inside : Option Order) (T : Ty) (i count : ℕ) → HasFrame inside T i count →
-    IsWithin inside i count T
+    FrameIndexFits inside i count T
 frame_within None T i count has = search (arith, part_place, part_bare, part_uncounted)
 frame_within (Some order) T i count has = search (arith)
 
@@ -99,7 +99,7 @@ frame_place_as (Some stage) inside (Led h F parts) i count has = tt
 frame_place_as (Some stage) inside T i count has = absurd has.0
 
 frame_within_as : (told : Option Stage) (inside : Option Order) (T : Ty) (i count : ℕ) →
-    HasFrameAs told inside T i count → IsWithinAs told inside i count T
+    HasFrameAs told inside T i count → FrameIndexFitsAs told inside i count T
 frame_within_as None inside T i count has = frame_within inside T i count has
 frame_within_as (Some stage) inside T i count has = has
 
@@ -129,16 +129,16 @@ frame_fits_as None here inside T i count outer leaf has fits =
 frame_fits_as (Some stage) here inside T i count outer leaf has fits =
     (record { same = refl; kind = has.0 }, fits)
 
-record FrameIs (told : Option Stage) (inside : Option Order) (T : Ty) (i count : ℕ)
+record FrameFitsOuter (told : Option Stage) (inside : Option Order) (T : Ty) (i count : ℕ)
     (outer : List OpenPart) (leaf : Leaf) : Type 0 where
   has : HasFrameAs told inside T i count
   fits : FitsIn (part_of T (part_index told inside i)) outer leaf
 
 frame_is : (told : Option Stage) (here : ℕ) (inside : Option Order) (T : Ty) (i count : ℕ)
-    (outer : List OpenPart) (leaf : Leaf) → IsWithinAs told inside i count T →
+    (outer : List OpenPart) (leaf : Leaf) → FrameIndexFitsAs told inside i count T →
     IfSome inside (λ order. i < count) →
     FitsIn T (part_as told here inside T i count ∷ outer) leaf →
-    FrameIs told inside T i count outer leaf
+    FrameFitsOuter told inside T i count outer leaf
 frame_is None here None T i count outer leaf within ahead fits = search (arith, fits_part)
 frame_is None here (Some order) T i count outer leaf within ahead fits = search (arith)
 frame_is (Some stage) here inside T i count outer leaf within ahead fits =
@@ -157,7 +157,7 @@ record ChainFits (C : Table) (room left here id : ℕ) (frames : List Frame) (le
 
 -- what can come after a part that tells it is a type of the table
 follow_part : (T : Ty) (i count : ℕ) → shape_in T ≡ shapes.Led → HasPart T i count →
-    CanFollow (hearing_in T) i
+    CanFollow (inference_in T) i
 follow_part (Led h F parts) i count led has = has.0
 follow_part (Single (Plain p)) i count led has = absurd has.0
 follow_part (Single (Enum n names)) i count led has = absurd has.0
@@ -168,7 +168,7 @@ follow_part (Octets kind) i count led has = absurd has.0
 follow_part T i count led has = absurd cc
 
 follow_known : (C : Table) (room id i : ℕ) → shape_in (tree_at C (suc room) id) ≡ shapes.Led →
-    CanFollow (hearing_in (tree_at C (suc room) id)) i → i ≤ length C.types
+    CanFollow (inference_in (tree_at C (suc room) id)) i → i ≤ length C.types
 follow_known C room id zero led can = absurd can
 follow_known C room id (suc k) led can =
     let below = follows_known C room k (led_follows C room id led can.0 k can.1) in
@@ -176,7 +176,8 @@ follow_known C room id (suc k) led can =
 
 -- so is the case of such a type
 
-case_follow : (T : Ty) (i : ℕ) → shape_in T ≡ shapes.Led → HasCase T i → CanFollow (hearing_in T) i
+case_follow : (T : Ty) (i : ℕ) → shape_in T ≡ shapes.Led → HasCase T i →
+    CanFollow (inference_in T) i
 case_follow (Led h F parts) i led has = has
 case_follow (Union (Cases n) scalar select names cases) i led has = absurd cc
 case_follow (Union Tag scalar select names cases) i led has = absurd cc
@@ -190,30 +191,31 @@ case_known C room id i has led =
 
 -- what the table lets come after such a part can come after it, and the other way round
 
-pub can_start : (h : Hearing) (i : ℕ) → CanFollow h i → 0 < i
+pub can_start : (h : TypeInference) (i : ℕ) → CanFollow h i → 0 < i
 can_start h zero can = absurd can
 can_start h (suc k) can = omega arith
 
 pub can_follows : (C : Table) (room id i : ℕ) → shape_in (tree_at C (suc room) id) ≡ shapes.Led →
-    CanFollow (hearing_in (tree_at C (suc room) id)) i → follows C room (i - 1) ≡ true
+    CanFollow (inference_in (tree_at C (suc room) id)) i → can_be_value C room (i - 1) ≡ true
 can_follows C room id zero led can = absurd can
 can_follows C room id (suc k) led can =
     let less : suc k - 1 ≡ k = omega arith in
     rw less (led_follows C room id led can.0 k can.1)
 
 pub follows_can : (C : Table) (room id i : ℕ) → shape_in (tree_at C (suc room) id) ≡ shapes.Led →
-    0 < i → follows C room (i - 1) ≡ true → CanFollow (hearing_in (tree_at C (suc room) id)) i
+    0 < i → can_be_value C room (i - 1) ≡ true →
+    CanFollow (inference_in (tree_at C (suc room) id)) i
 follows_can C room id zero led some is = absurd (omega arith)
 follows_can C room id (suc k) led some is =
     let less : suc k - 1 ≡ k = omega arith in
     (Is k, follows_led C room id led k (rw less at is))
 
 pub part_led : (T : Ty) (i count : ℕ) → HasShape T shapes.Led → count ≡ 0 →
-    CanFollow (hearing_in T) i → HasPart T i count
+    CanFollow (inference_in T) i → HasPart T i count
 part_led T i count h none can = rw h.3 (rw h.3 at can, none)
 
 pub led_part : (T : Ty) (i count : ℕ) → HasShape T shapes.Led → HasPart T i count →
-    CanFollow (hearing_in T) i × (count ≡ 0)
+    CanFollow (inference_in T) i × (count ≡ 0)
 led_part T i count h has = rw h.3 (rw h.3 at has)
 
 -- elements are parts if they have room
@@ -257,16 +259,17 @@ pub chained_more : (C : Table) (room left id part : ℕ) (frames rest : List Fra
     (leaf : Innermost) (goes : Bool) → frames ≡ f ∷ rest → suc left ≡ room → f.of.0 ≡ id →
     HasFrameAs f.told f.inside (tree_at C (suc left) id) f.index f.count →
     part ≡ part_number_in C left id (part_index f.told f.inside f.index) →
-    (IsTrue goes ↔ Chained C left part rest leaf) → IsTrue goes ↔ Chained C room id frames leaf
+    (IsTrue goes ↔ FramesChain C left part rest leaf) →
+    IsTrue goes ↔ FramesChain C room id frames leaf
 chained_more C room left id part frames rest f leaf goes is one same has number rests =
-    subst (λ fs. IsTrue goes ↔ Chained C room id fs leaf) (sym is)
-    (subst (λ n. IsTrue goes ↔ Chained C n id (f ∷ rest) leaf) one (
+    subst (λ fs. IsTrue goes ↔ FramesChain C room id fs leaf) (sym is)
+    (subst (λ n. IsTrue goes ↔ FramesChain C n id (f ∷ rest) leaf) one (
       λ yes. (
         same,
         has,
-        subst (λ p. Chained C left p rest leaf) number (rests.0 yes),
+        subst (λ p. FramesChain C left p rest leaf) number (rests.0 yes),
       ),
-      λ chain. rests.1 (subst (λ p. Chained C left p rest leaf) (sym number) chain.2),
+      λ chain. rests.1 (subst (λ p. FramesChain C left p rest leaf) (sym number) chain.2),
     ))
 
 -- the part that a frame is at, of a type that has room
@@ -295,7 +298,7 @@ module _ (C : Table) (room id : ℕ) (f : Frame) (laws : IsTable C) (known : id 
 
 chain_fits : (C : Table) (room left here id : ℕ) (frames : List Frame) (leaf : Innermost)
     (carry piece : List ℕ) → IsTable C → id < length C.types → room ≡ length frames + left →
-    Chained C room id frames leaf → LeafFits C left leaf carry piece →
+    FramesChain C room id frames leaf → LeafFits C left leaf carry piece →
     ChainFits C room left here id frames leaf carry piece
 chain_fits C room left here id [] leaf carry piece laws known rooms h inner = record {
   fits = (let is : room ≡ left = omega (arith, rooms) in rw (is, ← h) inner.0);
@@ -324,7 +327,7 @@ chain_fits C room left here id (f ∷ frames) leaf carry piece laws known rooms 
       known_outer = (
         record {
           known = subst (λ (n : ℕ). n < length C.types) is known;
-          within = λ n. subst (λ (m : ℕ). IsWithinAs f.told f.inside f.index f.count
+          within = λ n. subst (λ (m : ℕ). FrameIndexFitsAs f.told f.inside f.index f.count
               (tree_at C n m)) is
               (within_as_in_room C room n id f.told f.inside f.index f.count
               (frame_within_as f.told f.inside T f.index f.count has));
@@ -336,7 +339,7 @@ chain_fits C room left here id (f ∷ frames) leaf carry piece laws known rooms 
 
 record FitsChain (C : Table) (room left id : ℕ) (frames : List Frame) (leaf : Innermost)
     (carry piece : List ℕ) : Type 0 where
-  chain : Chained C room id frames leaf
+  chain : FramesChain C room id frames leaf
   inner : (let T = tree_at C left (leaf_type leaf) in FitsIn T [] (leaf_by T leaf carry piece))
 
 fits_chain : (C : Table) (room left here id : ℕ) (frames : List Frame) (leaf : Innermost)
@@ -357,7 +360,8 @@ fits_chain C room left here id (f ∷ frames) leaf carry piece laws known rooms 
     let some : 0 < room = omega (arith, rooms) in
     let there = subst (λ (n : ℕ). FitsIn T
     (part_as f.told here f.inside (tree_at C room n) f.index f.count ∷ ps) inmost) link.0 fits in
-    let within = subst (λ (n : ℕ). IsWithinAs f.told f.inside f.index f.count (tree_at C room n))
+    let within = subst (λ (n : ℕ). FrameIndexFitsAs f.told f.inside f.index f.count
+    (tree_at C room n))
     link.0
     (are.0.within room) in
     let u = frame_is f.told here f.inside T f.index f.count ps inmost within ahead.0 there in
@@ -406,9 +410,9 @@ root_linked : (C : Table) (root : ℕ) (frames : List Frame) (leaf : Innermost) 
 root_linked C root [] leaf link = sym link
 root_linked C root (f ∷ frames) leaf link = sym link.0
 
-pub chains_fits : (C : Table) (d : Decoder) → IsTable C → d.narrow ≡ C.narrow → Chains C d →
-    Fits C d
-chains_fits C d laws narrow h =
+pub chains_fits : (C : Table) (d : Decoder) → IsTable C → d.forbids_wide ≡ C.forbids_wide →
+    FitsCatalogue C d → Fits C d
+chains_fits C d laws forbids_wide h =
     let root = root_of d.outer.items h.leaf in
     let here = all_octets d.outer.items in
     let few = h.few in
@@ -422,7 +426,7 @@ chains_fits C d laws narrow h =
       known_root = h.known;
       link = c.link;
       fit = fit_some (tree C root) (root_is C root laws h.known) h.some;
-      narrow = narrow;
+      forbids_wide = forbids_wide;
       here = here;
       stands = stand_above here d.outer.items (omega arith);
       fits = c.fits;
@@ -436,7 +440,7 @@ chains_fits C d laws narrow h =
       name = h.name;
     }
 
-pub fits_chains : (C : Table) (d : Decoder) → IsTable C → Fits C d → Chains C d
+pub fits_chains : (C : Table) (d : Decoder) → IsTable C → Fits C d → FitsCatalogue C d
 fits_chains C d laws h =
     let few = fits_few C d h in
     let left = 24 - length d.outer.items in
@@ -449,7 +453,7 @@ fits_chains C d laws h =
       known_leaf = h.known;
       known = rw is at h.known_root;
       some = subst (λ n. IsEmptyStruct (tree C n) → ⊥) is (some_fit (tree C h.root) h.fit);
-      chain = subst (λ n. Chained C 24 n d.outer.items h.leaf) is c.chain;
+      chain = subst (λ n. FramesChain C 24 n d.outer.items h.leaf) is c.chain;
       few = few;
       inside = h.inside;
       fits = (c.inner, h.clean);

@@ -9,14 +9,14 @@ use Rattle.giop_decode.specs.declared.leaf.Leaf.{Leaf as Innermost}
 use Rattle.giop_decode.specs.declared.leaf.Leaf.TheVariants as innermost
 use Rattle.giop_decode.specs.declared.notes.Last.{Last}
 use Rattle.giop_decode.specs.declared.notes.Last.TheVariants as lasts
-use Rattle.giop_decode.specs.Stored.{leaf_octets, last_octets, inside_octet, told_octet, frame_size, frame_octets, frames_octets, FrameHasRange, LeafHasRange, LastHasRange}
+use Rattle.giop_decode.specs.Stored.{saved_leaf, saved_last, saved_inside, saved_stage, frame_size, saved_frame, saved_frames, FrameHasRange, LeafHasRange, LastHasRange}
 use Rattle.giop_decode.proofs.StoredFields.{frame_long, further, three}
 use Rattle.giop_octets.specs.Fields.{four}
 use Rattle.giop_octets.proofs.FieldLaws.{four_long, behind}
 use Rattle.giop_sig.specs.Table.{interface_id, type_id}
 
 -- n is the number of the four octets at this offset
-abbrev ReadsFour : ℕ → List ℕ → ℕ → Type 0
+abbrev ReadsFour : (at : ℕ) (octets : List ℕ) (n : ℕ) → Type 0
 ReadsFour at octets n = (m : ℕ) (rest : List ℕ) → m < 2 ^ 32 → drop at octets ≡ four m ++ rest →
     n ≡ m
 
@@ -46,20 +46,20 @@ module _ (at of tag : ℕ) (octets rest : List ℕ)
     (tag_is : (n : ℕ) (rest : List ℕ) → drop at octets ≡ n ∷ rest → tag ≡ n)
     (of_is : ReadsFour (at + 1) octets of) where
   pub number_again : (leaf : Innermost) → LeafHasRange leaf →
-      drop at octets ≡ leaf_octets leaf ++ rest → tag ≡ 0 → innermost.Number (type_id of) ≡ leaf
+      drop at octets ≡ saved_leaf leaf ++ rest → tag ≡ 0 → innermost.Number (type_id of) ≡ leaf
   number_again (innermost.Number t) range is zero_tag = search (arith, numbers_stand)
   number_again (innermost.Content t total offset) range is zero_tag = search (arith)
   number_again (innermost.Opening t count) range is zero_tag = search (arith)
 
   pub opening_again : (leaf : Innermost) (count : ℕ) → LeafHasRange leaf →
-      drop at octets ≡ leaf_octets leaf ++ rest → tag ≡ 2 → ReadsFour (at + 5) octets count →
+      drop at octets ≡ saved_leaf leaf ++ rest → tag ≡ 2 → ReadsFour (at + 5) octets count →
       innermost.Opening (type_id of) count ≡ leaf
   opening_again (innermost.Number t) count range is two count_is = search (arith)
   opening_again (innermost.Content t total offset) count range is two count_is = search (arith)
   opening_again (innermost.Opening t k) count range is two count_is = search (arith, numbers_stand)
 
   pub content_again : (leaf : Innermost) (total offset : ℕ) → LeafHasRange leaf →
-      drop at octets ≡ leaf_octets leaf ++ rest → (tag ≡ 0 → ⊥) → (tag ≡ 2 → ⊥) →
+      drop at octets ≡ saved_leaf leaf ++ rest → (tag ≡ 0 → ⊥) → (tag ≡ 2 → ⊥) →
       ReadsFour (at + 5) octets total → ReadsFour (at + 9) octets offset →
       innermost.Content (type_id of) total offset ≡ leaf
   content_again (innermost.Opening t count) total offset range is other third total_is offset_is =
@@ -78,21 +78,21 @@ number_stands at tag n octets rest is = behind at 1 octets (tag ∷ []) _ is ref
 
 module _ (at tag : ℕ) (octets rest : List ℕ)
     (tag_is : (n : ℕ) (rest : List ℕ) → drop at octets ≡ n ∷ rest → tag ≡ n) where
-  pub nothing_again : (last : Last) → drop at octets ≡ last_octets last ++ rest → tag ≡ 0 →
+  pub nothing_again : (last : Last) → drop at octets ≡ saved_last last ++ rest → tag ≡ 0 →
       lasts.Nothing ≡ last
   nothing_again lasts.Nothing is zero_tag = refl
   nothing_again (lasts.Status n) is zero_tag = search (arith)
   nothing_again (lasts.Interface i) is zero_tag = search (arith)
 
   pub status_again : (last : Last) (number : ℕ) → ReadsFour (at + 1) octets number →
-      LastHasRange last → drop at octets ≡ last_octets last ++ rest → tag ≡ 1 →
+      LastHasRange last → drop at octets ≡ saved_last last ++ rest → tag ≡ 1 →
       lasts.Status number ≡ last
   status_again lasts.Nothing number reads range is one_tag = search (arith)
   status_again (lasts.Status n) number reads range is one_tag = search (arith, number_stands)
   status_again (lasts.Interface i) number reads range is one_tag = search (arith)
 
   pub interface_again : (last : Last) (number : ℕ) → ReadsFour (at + 1) octets number →
-      LastHasRange last → drop at octets ≡ last_octets last ++ rest → (tag ≡ 0 → ⊥) →
+      LastHasRange last → drop at octets ≡ saved_last last ++ rest → (tag ≡ 0 → ⊥) →
       (tag ≡ 1 → ⊥) → lasts.Interface (interface_id number) ≡ last
   interface_again lasts.Nothing number reads range is other third = search (arith)
   interface_again (lasts.Status n) number reads range is other third = search (arith)
@@ -102,15 +102,15 @@ module _ (at tag : ℕ) (octets rest : List ℕ)
 -- ---- frames
 
 pub frame_again : (f : Frame) (of index count : ℕ) (inside : Option Order) (told : Option Stage)
-    (octets rest : List ℕ) → FrameHasRange f → octets ≡ frame_octets f ++ rest → ReadsFour 0 octets
+    (octets rest : List ℕ) → FrameHasRange f → octets ≡ saved_frame f ++ rest → ReadsFour 0 octets
     of →
     ReadsFour 4 octets index → ReadsFour 8 octets count →
-    ((i : Option Order) (rest : List ℕ) → drop 12 octets ≡ inside_octet i ∷ rest → inside ≡ i) →
-    ((t : Option Stage) (rest : List ℕ) → drop 13 octets ≡ told_octet t ∷ rest → told ≡ t) →
+    ((i : Option Order) (rest : List ℕ) → drop 12 octets ≡ saved_inside i ∷ rest → inside ≡ i) →
+    ((t : Option Stage) (rest : List ℕ) → drop 13 octets ≡ saved_stage t ∷ rest → told ≡ t) →
     record { of = type_id of; index = index; count = count; inside = inside; told = told } ≡ f
 frame_again f of index count inside told octets rest range is of_is index_is count_is inside_is
     told_is =
-    let last : List ℕ = inside_octet f.inside ∷ told_octet f.told ∷ replicate 10 0 in
+    let last : List ℕ = saved_inside f.inside ∷ saved_stage f.told ∷ replicate 10 0 in
     let first : drop 0 octets ≡ four f.of.0 ++ (four f.index ++ (four f.count ++ (last ++ rest))) =
     is
     ∙ four_fields (four f.of.0) (four f.index) (four f.count) last rest in
@@ -124,35 +124,37 @@ frame_again f of index count inside told octets rest range is of_is index_is cou
     let c : count ≡ f.count = count_is f.count _ range.count third in
     let d : inside ≡ f.inside = inside_is f.inside _ fourth in
     let e : told ≡ f.told = told_is f.told _
-    (behind 12 1 octets (inside_octet f.inside ∷ []) _ fourth refl) in
+    (behind 12 1 octets (saved_inside f.inside ∷ []) _ fourth refl) in
     rw (a, b, c, d, e) refl
 
 -- the frames that are still to be read, before the last one
-pub record Left (all items : List Frame) (own : Frame) (octets : List ℕ) : Type 0 where
+pub record FramesLeft (all items : List Frame) (own : Frame) (octets : List ℕ) : Type 0 where
   pub left : List Frame
   pub range : AllByRecursion FrameHasRange left
-  pub octets_are : octets ≡ frames_octets (left ++ own ∷ [])
+  pub octets_are : octets ≡ saved_frames (left ++ own ∷ [])
   pub all_are : all ≡ items ++ left
 
 two_long : (g h : Frame) (gs : List Frame) →
-    2 * frame_size ≤ length (frames_octets (g ∷ gs ++ h ∷ []))
+    2 * frame_size ≤ length (saved_frames (g ∷ gs ++ h ∷ []))
 two_long g h [] = search (arith, length-append, frame_long)
 two_long g h (k ∷ gs) = search (arith, length-append, frame_long, two_long k h gs)
 
 pub frame_more : (all items new : List Frame) (own f : Frame) (octets after : List ℕ) →
-    Left all items own octets → 2 * frame_size ≤ length octets → after ≡ drop frame_size octets →
+    FramesLeft all items own octets → 2 * frame_size ≤ length octets → after
+    ≡ drop frame_size octets →
     new ≡ items ++ f ∷ [] → ((g : Frame) (rest : List ℕ) → FrameHasRange g →
-    octets ≡ frame_octets g ++ rest → f ≡ g) → Left all new own after
+    octets ≡ saved_frame g ++ rest → f ≡ g) → FramesLeft all new own after
 frame_more all items new own f octets after l long is pushed read =
     by_left l.left l.range l.octets_are l.all_are
   where
     by_left : (left : List Frame) → AllByRecursion FrameHasRange left →
-        octets ≡ frames_octets (left ++ own ∷ []) → all ≡ items ++ left → Left all new own after
+        octets ≡ saved_frames (left ++ own ∷ []) → all ≡ items ++ left →
+        FramesLeft all new own after
     by_left [] range e a = search (arith, length-append, frame_long)
     by_left (g ∷ gs) range e a = record {
       left = gs;
       range = range.1;
-      octets_are = is ∙ behind 0 frame_size octets (frame_octets g) _ e (frame_long g);
+      octets_are = is ∙ behind 0 frame_size octets (saved_frame g) _ e (frame_long g);
       all_are = a ∙ ap (λ (x : Frame). items ++ x ∷ gs) (sym (read g _ range.0 e))
           ∙ sym (append_assoc items (f ∷ []) gs)
           ∙ ap (λ (xs : List Frame). xs ++ gs) (sym pushed);
@@ -161,11 +163,11 @@ frame_more all items new own f octets after l long is pushed read =
 -- no frame is left if there are octets of less than two frames, or if there is no room for more
 -- frames
 pub frames_ended : (all items : List Frame) (own : Frame) (octets : List ℕ) →
-    Left all items own octets → length all < 24 →
+    FramesLeft all items own octets → length all < 24 →
     (2 * frame_size ≤ length octets → length items ≡ 24) → items ≡ all
 frames_ended all items own octets l few ended = by_left l.left l.octets_are l.all_are
   where
-    by_left : (left : List Frame) → octets ≡ frames_octets (left ++ own ∷ []) →
+    by_left : (left : List Frame) → octets ≡ saved_frames (left ++ own ∷ []) →
         all ≡ items ++ left → items ≡ all
     by_left [] e a = sym (a ∙ append-nil items)
     by_left (g ∷ gs) e a = search (arith, two_long, length-append)

@@ -14,32 +14,32 @@ use Rattle.giop_decode.specs.declared.progress.ValueFault.TheVariants as kinds
 use Rattle.giop_decode.specs.declared.leaf.Output.TheVariants as outputs
 use Rattle.giop_decode.specs.ReadResult
 use Rattle.giop_decode.specs.ReadResult.{Coding, PathSegment, Switch, line, Count, Piece, Part, Member, Content, Done, Short, within, Fault, Opening, Ordered, Size}
-use Rattle.giop_decode.specs.Pieces.{over, tail, content}
-use Rattle.giop_decode.specs.Reading.{order_of, wrong}
-use Rattle.giop_decode.specs.ReadingSteps.{leaf_step, inner_path, after, leading_width}
+use Rattle.giop_decode.specs.Pieces.{bound_fault, terminator_size, content}
+use Rattle.giop_decode.specs.Reading.{order_of, number_fault}
+use Rattle.giop_decode.specs.ReadingSteps.{leaf_step, inner_path, after_number, leading_width}
 use Rattle.giop_decode.specs.Begins.{start_outer, start_leaf}
 use Rattle.giop_decode.specs.Fits.{HasCase, IsEncapsulation}
-use Rattle.giop_decode.specs.Transitions.{IsNumberOf, TransitionGives, over_by, recursed}
+use Rattle.giop_decode.specs.Transitions.{IsNumberOf, TransitionGives, bound_fault_if, after_recursive_count}
 use Rattle.giop_decode.proofs.Law.{block_got, block_step_got}
 use Rattle.giop_decode.proofs.OctetKinds.{octets_no_union}
 use Rattle.giop_decode.proofs.Leaving.{fit_held}
 use Rattle.giop_decode.proofs.Enclosing.{with_front-enclosed}
 use Rattle.std.proofs.Math.Seq.{take-nil, drop-nil}
 use Rattle.giop_decode.proofs.Around.{block_none, first_part, read_none}
-use Rattle.giop_sig.specs.Types.{Cases, Scalar, Plain, Enum, Marked, Led, Ty, Single, Text, OctetKind, Octets, bound_of, Struct, Union, Sequence, Array, part_of, switch_of, shape_in, select_in, interpreted_in, IsUnion, HasMember, Tag, tag_of, Encapsulation, Recursive, elements_fit}
+use Rattle.giop_sig.specs.Types.{Cases, Scalar, Plain, Enum, Marked, Led, Ty, Single, Text, OctetKind, Octets, bound_of, Struct, Union, Sequence, Array, part_of, switch_of, shape_in, select_in, interpreted_in, IsUnion, HasMember, Tag, discriminator_name, Encapsulation, Recursive, elements_fit}
 use Rattle.giop_sig.specs.declared.types.Selected.TheVariants.{Case, Nothing, Refused}
 use Rattle.giop_sig.specs.Fits.{IsFit}
 
 -- a content with something still to come, before its first octet
 pub content_none : (path : List PathSegment) (U : Ty) (total full offset at : ℕ) →
-    0 < total - offset + tail U → content U path total full offset at []
+    0 < total - offset + terminator_size U → content U path total full offset at []
     ≡ Short [] at [] (Content U total offset [])
 content_none path U total zero offset at pos = search (arith, block_none)
 content_none path U total (suc full) offset at pos = search (arith, block_none, lit<)
 
 -- a number that is a value of its type isn't wrong
 pub right_taken : (p : Primitive) (n : ℕ) (number : Taken) → interpreted_as p n ≡ Some number →
-    wrong (Plain p) n ≡ None
+    number_fault (Plain p) n ≡ None
 right_taken prims.Octet n number e = refl
 right_taken prims.Char n number e = refl
 right_taken prims.Boolean n number e = search (arith, cases_lt, lt-ltb, ne_eqb)
@@ -113,35 +113,36 @@ number_enum T count names n is below within =
 module _ (coding : Coding) (path : List PathSegment) (T : Ty) (at : ℕ) where
   pub turns_number : (number : Taken) (is : IsNumberOf T number) →
       TransitionGives T transitions.Ended (outputs.Number number) [] [] path at
-      (after coding path T is.n at [])
+      (after_number coding path T is.n at [])
   turns_number number is = record {
     lines = line at path (ReadResult.Number is.scalar is.n) ∷ [];
     comes = rw (is.is, is.right) refl;
     says = (is, refl);
   }
 
-  pub text_open : (bound : Option ℕ) (n : ℕ) → T ≡ Text bound → over bound n ≡ over_by false →
-      after coding path T (suc n) at [] ≡ Short [] at [] (Content T n 0 [])
+  pub text_open : (bound : Option ℕ) (n : ℕ) → T ≡ Text bound → bound_fault bound n
+      ≡ bound_fault_if false →
+      after_number coding path T (suc n) at [] ≡ Short [] at [] (Content T n 0 [])
   text_open bound n is ok = search (arith, content_none)
 
   pub octets_empty : (kind : OctetKind) (n : ℕ) → T ≡ Octets kind →
-      over (bound_of kind) n ≡ over_by false → n ≡ 0 →
-      after coding path T n at [] ≡ Done (line at path (Piece T 0 [] false) ∷ []) at []
+      bound_fault (bound_of kind) n ≡ bound_fault_if false → n ≡ 0 →
+      after_number coding path T n at [] ≡ Done (line at path (Piece T 0 [] false) ∷ []) at []
   octets_empty kind n is ok none = search (arith, block_got, add-zero)
 
   pub octets_open : (kind : OctetKind) (n : ℕ) → T ≡ Octets kind →
-      over (bound_of kind) n ≡ over_by false → 0 < n →
-      after coding path T n at [] ≡ Short [] at [] (Content T n 0 [])
+      bound_fault (bound_of kind) n ≡ bound_fault_if false → 0 < n →
+      after_number coding path T n at [] ≡ Short [] at [] (Content T n 0 [])
   octets_open kind n is ok pos = search (arith, content_none)
 
   pub sequence_empty : (bound : Option ℕ) (E : Ty) (n : ℕ) → T ≡ Sequence bound E →
-      over bound n ≡ over_by false → n ≡ 0 →
-      after coding path T n at [] ≡ Done (line at path (Count n) ∷ []) at []
+      bound_fault bound n ≡ bound_fault_if false → n ≡ 0 →
+      after_number coding path T n at [] ≡ Done (line at path (Count n) ∷ []) at []
   sequence_empty bound E n is ok none = rw (is, ok, none) refl
 
   pub sequence_open : (d : ℕ) (bound : Option ℕ) (E : Ty) (n : ℕ) → IsFit d T →
-      T ≡ Sequence bound E → over bound n ≡ over_by false → 0 < n →
-      after coding path T n at [] ≡ Short (line at path (Count n) ∷ []) at
+      T ≡ Sequence bound E → bound_fault bound n ≡ bound_fault_if false → 0 < n →
+      after_number coding path T n at [] ≡ Short (line at path (Count n) ∷ []) at
       (Part T 0 n ∷ start_outer (part_of T 0)) (start_leaf (part_of T 0))
   unfolding IsFit
   sequence_open zero bound E n fit is ok pos = absurd fit
@@ -150,15 +151,15 @@ module _ (coding : Coding) (path : List PathSegment) (T : Ty) (at : ℕ) where
 
 module _ (coding : Coding) (path : List PathSegment) (T : Ty) (at : ℕ) where
   pub recursive_empty : (bound : Option ℕ) (fits : Bool) (E : Ty) (n : ℕ) →
-      T ≡ Recursive bound fits E → over bound n ≡ over_by false → n ≡ 0 →
-      after coding path T n at [] ≡ Done (line at path (Count n) ∷ []) at []
+      T ≡ Recursive bound fits E → bound_fault bound n ≡ bound_fault_if false → n ≡ 0 →
+      after_number coding path T n at [] ≡ Done (line at path (Count n) ∷ []) at []
   recursive_empty bound true E n is ok none = rw (is, ok, none) refl
   recursive_empty bound false E n is ok none = rw (is, ok, none) refl
 
   pub recursive_open : (d : ℕ) (bound : Option ℕ) (fits : Bool) (E : Ty) (n : ℕ) → IsFit d T →
-      T ≡ Recursive bound fits E → over bound n ≡ over_by false → 0 < n →
-      after coding path T n at []
-      ≡ recursed T (elements_fit T) n (line at path (Count n) ∷ []) at
+      T ≡ Recursive bound fits E → bound_fault bound n ≡ bound_fault_if false → 0 < n →
+      after_number coding path T n at []
+      ≡ after_recursive_count T (elements_fit T) n (line at path (Count n) ∷ []) at
   unfolding IsFit
   recursive_open zero bound fits E n fit is ok pos = absurd fit
   recursive_open (suc d) bound fits E zero fit is ok pos = absurd (omega arith)
@@ -186,14 +187,14 @@ module _ (coding : Coding) (path : List PathSegment) (at : ℕ) (number : Taken)
   pub case_transition : (d : ℕ) (T : Ty) (i : ℕ) (is : IsNumberOf (switch_of T) number) →
       IsFit d T → IsUnion (shape_in T) → select_in T is.n ≡ Case i → HasCase T i →
       TransitionGives T (transitions.Selected i) (outputs.Switch number) [] [] path at
-      (after coding path T is.n at [])
+      (after_number coding path T is.n at [])
   unfolding IsFit
   case_transition zero T i is fit u e h = absurd fit
   case_transition (suc d) (Union choice scalar select names cases) i is fit u e h =
       let s : scalar ≡ is.scalar = same_scalar scalar is.scalar is.is in
-      let w : wrong scalar is.n ≡ None = rw s is.right in
+      let w : number_fault scalar is.n ≡ None = rw s is.right in
       record {
-        lines = line at (path ++ Switch (tag_of choice scalar names) ∷ [])
+        lines = line at (path ++ Switch (discriminator_name choice scalar names) ∷ [])
             (ReadResult.Number is.scalar is.n) ∷ [];
         comes = rw (
           w,
@@ -201,7 +202,7 @@ module _ (coding : Coding) (path : List PathSegment) (at : ℕ) (number : Taken)
           read_none coding (inner_path path (Union choice scalar select names cases)
               i) d (cases i) at (fit.1 i h),
         ) (ap (λ k.
-            Short (line at (path ++ Switch (tag_of choice scalar names) ∷ [])
+            Short (line at (path ++ Switch (discriminator_name choice scalar names) ∷ [])
             (ReadResult.Number k is.n) ∷ []) at
             (Member (Union choice scalar select names cases) i ∷ start_outer (cases i))
             (start_leaf (cases i))) s);
@@ -222,14 +223,15 @@ module _ (coding : Coding) (path : List PathSegment) (at : ℕ) (number : Taken)
   pub turns_nothing : (T : Ty) (is : IsNumberOf (switch_of T) number) → IsUnion (shape_in T) →
       select_in T is.n ≡ Nothing →
       TransitionGives T transitions.Ended (outputs.Switch number) [] [] path at
-      (after coding path T is.n at [])
+      (after_number coding path T is.n at [])
   turns_nothing (Union choice scalar select names cases) is u e =
       let s : scalar ≡ is.scalar = same_scalar scalar is.scalar is.is in
-      let w : wrong scalar is.n ≡ None = rw s is.right in
+      let w : number_fault scalar is.n ≡ None = rw s is.right in
       record {
-        lines = line at (path ++ Switch (tag_of choice scalar names) ∷ [])
+        lines = line at (path ++ Switch (discriminator_name choice scalar names) ∷ [])
             (ReadResult.Number is.scalar is.n) ∷ [];
-        comes = rw (w, e) (ap (λ k. Done (line at (path ++ Switch (tag_of choice scalar names) ∷ [])
+        comes = rw (w, e) (ap (λ k. Done (line at (path
+            ++ Switch (discriminator_name choice scalar names) ∷ [])
             (ReadResult.Number k is.n) ∷ []) at []) s);
         says = (is, refl);
       }
@@ -248,7 +250,7 @@ module _ (coding : Coding) (path : List PathSegment) (at : ℕ) (number : Taken)
   pub turns_refused : (T : Ty) (is : IsNumberOf (switch_of T) number) → IsUnion (shape_in T) →
       select_in T is.n ≡ Refused →
       TransitionGives T (transitions.Refused kinds.Disposition) outputs.Nothing [] [] path at
-      (after coding path T is.n at [])
+      (after_number coding path T is.n at [])
   turns_refused (Union choice scalar select names cases) is u e = search (arith, same_scalar)
   turns_refused (Struct n names parts) is u e = absurd u
   turns_refused (Array n T) is u e = absurd u
@@ -276,12 +278,13 @@ no_order (suc (suc b)) h k = refl
 
 module _ (coding : Coding) (path : List PathSegment) (at : ℕ) where
   pub size_none : (T : Ty) → IsEncapsulation T →
-      after coding path T 0 at [] ≡ Fault (line at path (Size 0) ∷ []) at kinds.EncapShort T
+      after_number coding path T 0 at [] ≡ Fault (line at path (Size 0) ∷ []) at kinds.EncapShort T
   size_none (Encapsulation T) h = refl
   size_none _ h = absurd h
 
   pub size_some : (T : Ty) (left : ℕ) → IsEncapsulation T →
-      after coding path T (suc left) at [] ≡ Short (line at path (Size (suc left)) ∷ []) at []
+      after_number coding path T (suc left) at []
+      ≡ Short (line at path (Size (suc left)) ∷ []) at []
       (Opening T left)
   size_some (Encapsulation T) left h = search (arith, block_none, lit<)
   size_some _ left h = absurd h

@@ -1,7 +1,7 @@
 -- The reading after a transition of an innermost part, inside the frames around it.
 use Rattle.std.proofs.Common.{arith, ◌≡◌, ℕ, zero, suc, pred, ◌<◌, List, [], sym, ◌∙◌, ap, append-nil}
 use Rattle.giop_decode.specs.ReadResult.{Coding, PathSegment, ValueAt, OpenPart, Done, with_front}
-use Rattle.giop_decode.specs.ReadingSteps.{around, heard_parts}
+use Rattle.giop_decode.specs.ReadingSteps.{resume_outer, parts_after_lines}
 use Rattle.giop_decode.specs.Fits.{HasParts, HasCase, IsEncapsulation}
 use Rattle.giop_decode.proofs.Around.{fit_part, around-front}
 use Rattle.giop_decode.proofs.Leaving.{fit_case, fit_held}
@@ -26,7 +26,7 @@ fit_inside (suc d) T fit kind = fit_held d T fit kind
 
 module _ (coding : Coding) (path : List PathSegment) (ps : List OpenPart) (lines : List ValueAt)
     (at : ℕ) where
-  pub around_done : around coding path ps (Done lines at [])
-      ≡ with_front lines (around coding path (heard_parts lines ps) (Done [] at []))
-  around_done = ap (λ ls. around coding path ps (Done ls at [])) (sym (append-nil lines))
+  pub around_done : resume_outer coding path ps (Done lines at [])
+      ≡ with_front lines (resume_outer coding path (parts_after_lines lines ps) (Done [] at []))
+  around_done = ap (λ ls. resume_outer coding path ps (Done ls at [])) (sym (append-nil lines))
       ∙ around-front coding path ps lines (Done [] at [])

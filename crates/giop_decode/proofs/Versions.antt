@@ -11,8 +11,8 @@ use Rattle.giop_sig.specs.HeaderTypes.{IsTable}
 use Rattle.giop_sig.specs.Table.{Table, seen}
 use Rattle.giop_sig.specs.Types.{Ty}
 
-pub table_seen : (narrow : Bool) (C : Table) → IsTable C → IsTable (seen narrow C)
-table_seen narrow C h = record {
+pub table_seen : (forbids_wide : Bool) (C : Table) → IsTable C → IsTable (seen forbids_wide C)
+table_seen forbids_wide C h = record {
   types = h.types;
   begins = h.begins;
   operations = h.operations;
@@ -29,19 +29,19 @@ table_seen narrow C h = record {
   anys = h.anys;
 }
 
-module _ (narrow : Bool) (C : Table) where
-  pub fits_own : (d : Decoder) → states.Fits (seen narrow C) d → public.Fits C d
-  fits_own d h = subst (λ n. states.Fits (seen n C) d) (sym h.narrow) h
+module _ (forbids_wide : Bool) (C : Table) where
+  pub fits_own : (d : Decoder) → states.Fits (seen forbids_wide C) d → public.Fits C d
+  fits_own d h = subst (λ n. states.Fits (seen n C) d) (sym h.forbids_wide) h
 
   pub reads_own : (T : Ty) (coding : Coding) (at message : ℕ) (root : Root) (d : Decoder)
-      (s : List ℕ) → states.Reads (seen narrow C) T coding at message root d s →
+      (s : List ℕ) → states.Reads (seen forbids_wide C) T coding at message root d s →
       public.Reads C T coding at message root d s
   reads_own T coding at message root d s h =
-      subst (λ n. states.Reads (seen n C) T coding at message root d s) (sym h.narrow) h
+      subst (λ n. states.Reads (seen n C) T coding at message root d s) (sym h.forbids_wide) h
 
   pub takes_own : (T : Ty) (coding : Coding) (at message : ℕ) (root : Root) (d : Decoder)
       (s octets : List ℕ) (p : Progress) →
-      runs.TakesRun (seen narrow C) T coding at message root d s octets p →
+      runs.TakesRun (seen forbids_wide C) T coding at message root d s octets p →
       public.TakesRun C T coding at message root d s octets p
   takes_own T coding at message root d s octets p h = record {
     answers = h.answers;
@@ -54,24 +54,24 @@ module _ {E : Type 0} (C : Table) (old new : Decoder) (octets : List ℕ) where
   pub run_own : (result : Result (ℕ × Progress) E) →
       IfOk result (λ taken. (T : Ty) (coding : Coding) (at message : ℕ) (root : Root) (s : List ℕ) →
       public.Reads C T coding at message root old s →
-      runs.TakesRun (seen old.narrow C) T coding at message root new s (take taken.0 octets)
+      runs.TakesRun (seen old.forbids_wide C) T coding at message root new s (take taken.0 octets)
       taken.1) →
       IfOk result (λ taken. (T : Ty) (coding : Coding) (at message : ℕ) (root : Root) (s : List ℕ) →
       public.Reads C T coding at message root old s →
       public.TakesRun C T coding at message root new s (take taken.0 octets) taken.1)
   run_own (Ok taken) h = λ T coding at message root s r.
-      takes_own old.narrow C T coding at message root new s (take taken.0 octets) taken.1
+      takes_own old.forbids_wide C T coding at message root new s (take taken.0 octets) taken.1
       (h T coding at message root s r)
   run_own (Err e) h = h
 
   pub run_fits : (result : Result (ℕ × Progress) E) →
-      IfOk result (λ taken. public.GoesOn taken.1 → states.Fits (seen old.narrow C) new) →
+      IfOk result (λ taken. public.GoesOn taken.1 → states.Fits (seen old.forbids_wide C) new) →
       IfOk result (λ taken. public.GoesOn taken.1 → public.Fits C new)
-  run_fits (Ok taken) h = λ on. fits_own old.narrow C new (h on)
+  run_fits (Ok taken) h = λ on. fits_own old.forbids_wide C new (h on)
   run_fits (Err e) h = h
 
   pub run_keeps : (result : Result (ℕ × Progress) E) →
-      IfOk result (λ taken. public.GoesOn taken.1 → states.Fits (seen old.narrow C) new) →
+      IfOk result (λ taken. public.GoesOn taken.1 → states.Fits (seen old.forbids_wide C) new) →
       IfOk result (λ taken. public.GoesOn taken.1 → public.KeepsVersion old new)
-  run_keeps (Ok taken) h = λ on. (h on).narrow
+  run_keeps (Ok taken) h = λ on. (h on).forbids_wide
   run_keeps (Err e) h = h

@@ -22,32 +22,32 @@ use Rattle.giop_decode.specs.declared.leaf.Transition.TheVariants as transitions
 use Rattle.giop_decode.specs.declared.leaf.Output.{Output}
 use Rattle.giop_decode.specs.declared.leaf.Output.TheVariants as outputs
 use Rattle.giop_decode.specs.Fits.{ContentFits, HasLeadingNumber}
-use Rattle.giop_decode.specs.Noted.{Noted, noted, without_name_if, ends_in_string, in_content, is_header_root, is_text, nothing_noted}
+use Rattle.giop_decode.specs.Noted.{Noted, note_lines, without_name_if, ends_in_string, in_string_content, is_header_root, is_text, nothing_noted}
 use Rattle.giop_decode.specs.SeenState.{Fits, CanStandAt, KeepsNoted, HoldsNoted, read_by_fields}
-use Rattle.giop_decode.specs.DecoderSteps.{IsAround, IsNotRefused, decoder_step, emitted}
-use Rattle.giop_decode.specs.Pieces.{ends, tail, unless}
+use Rattle.giop_decode.specs.DecoderSteps.{FitsAroundPart, IsNotRefused, decoder_step, root_after_transition}
+use Rattle.giop_decode.specs.Pieces.{string_end_fault, terminator_size, fault_or}
 use Rattle.giop_decode.specs.Reading.{after_leading_number}
 use Rattle.giop_decode.proofs.NameBuffer.{name_kept, none_either}
-use Rattle.giop_decode.specs.NameBuffer.{FitsName, string_offset}
+use Rattle.giop_decode.specs.NameBuffer.{NameBufferFits, string_offset}
 use Rattle.giop_decode.specs.declared.notes.Notes.{Notes}
 use Rattle.giop_decode.specs.NotingSteps.{transition_offset, StringGoesOn, OutputFitsString, clears_name, leaf_in_string, transition_in_string}
-use Rattle.giop_decode.specs.Runs.{Adds, AllGathered, IsHeldOf, IsParted, IsStep, IsStepBy, IsStepOf, TakenTogether}
+use Rattle.giop_decode.specs.Runs.{AreHeldAfter, AlwaysTakesWithoutLine, HasHeldTogether, LeavesPieceIncomplete, IsStep, IsStepBy, IsStepOf, TakenTogether}
 use Rattle.giop_decode.specs.ReadResult.{line, Coding, Done, ValueAt, Opening, PathSegment, Piece, lines_of, with_front}
-use Rattle.giop_decode.specs.ReadingSteps.{after, coding_in, content_step, leading_width, leaf_step, path_in, IsRule}
-use Rattle.giop_decode.specs.Transitions.{AreKnown, HasOutput, HaveOctetsLeft, IsOutput, IsWholeLong, IsWholeNumber, LetsGo, NumberStands, TransitionGives, TransitionFits, after_transition, block_of, coding_by, leaf_by, leaf_of, leaf_type, open_parts, still_held, ticked, ticked_by, tree_in, IsClean}
+use Rattle.giop_decode.specs.ReadingSteps.{after_number, coding_in, content_step, leading_width, leaf_step, path_in, BreaksRule}
+use Rattle.giop_decode.specs.Transitions.{AreKnown, HasOutput, HaveOctetsLeft, IsOutput, IsWholeLong, IsWholeNumber, HoldsNothingAfter, BelongToNumber, TransitionGives, TransitionFits, after_transition, block_of, innermost_coding, leaf_by, leaf_of, leaf_type, open_parts, held_after_output, frames_after_octet, frames_after_octets, tree_in, HoldsOnlyItsOwn}
 use Rattle.giop_decode.proofs.Advancing.{lines_after_transition, same_some, stands_at, fits_allowed}
 use Rattle.arrayvec.specs.ArrayVec.{ArrayVec}
 use Rattle.giop_decode.specs.declared.frame.Frame.{Frame}
-use Rattle.giop_decode.proofs.Counting.{ahead_fewer, coding_ticked_by, length_ticked_by, ticked_last, ticked_none}
+use Rattle.giop_decode.proofs.Counting.{ahead_fewer, coding_after_octets, length_after_octets, octet_after_octets, after_no_octets}
 use Rattle.giop_decode.proofs.Gathering.{IsCountedBy, IsFurther, none_counted, number_counted, waits_gathered}
 use Rattle.giop_decode.proofs.Noting.{noted_on, leaf_inside}
 use Rattle.giop_decode.proofs.PieceLaws.{content_held, full_whole, last_whole}
 use Rattle.giop_decode.proofs.HeardFrames.{path_heard}
-use Rattle.giop_decode.specs.Heard.{AreHeard}
-use Rattle.giop_decode.proofs.Surrounding.{coded_in, known_ticked, places_ticked, tree_ticked}
+use Rattle.giop_decode.specs.Heard.{FramesHear}
+use Rattle.giop_decode.proofs.Surrounding.{coded_in, known_after_octet, places_after_octet, tree_after_octet}
 use Rattle.giop_decode.proofs.Rooms.{in_frames}
-use Rattle.giop_decode.specs.Passes.{Gives, IsBehind}
-use Rattle.giop_decode.proofs.PartialBlocks.{held_in}
+use Rattle.giop_decode.specs.Passes.{AreStepLines, HasCountedOctet}
+use Rattle.giop_decode.proofs.PartialBlocks.{with_held}
 use Rattle.giop_sig.specs.declared.types.TypeId.{TypeId}
 use Rattle.giop_sig.specs.Table.{Table, type_id}
 use Rattle.giop_sig.specs.Trees.{tree_at}
@@ -59,8 +59,8 @@ use Rattle.giop_sig.specs.Types.{Plain, Single, Text, Ty}
 
 pub whole_number : (p : Primitive) (order : Order) (at count : ℕ) (octets all : List ℕ)
     (number : Taken) →
-    NumberStands (size_of p) at [] octets count true all → length all ≡ size_of p → AreOctets all →
-    interpreted_as p (num order all) ≡ Some number →
+    BelongToNumber (size_of p) at [] octets count true all → length all ≡ size_of p →
+    AreOctets all → interpreted_as p (num order all) ≡ Some number →
     IsWholeNumber (Single (Plain p)) order at octets count number
 whole_number p order at count octets all number stands width are taken = record {
   all = all;
@@ -83,12 +83,12 @@ width_in C d f of e width all =
     in_frames (λ n. HasLeadingNumber (tree_at C n of.0) → width ≡ leading_width (tree_at C n of.0))
     d.outer.items s.room all s.fits.kind
 
-still_nothing : (output : Output) → still_held output [] ≡ []
+still_nothing : (output : Output) → held_after_output output [] ≡ []
 still_nothing outputs.Nothing = refl
 still_nothing _ = refl
 
 -- nothing is held, whatever the transition
-lets_nothing_go : (transition : Transition) → LetsGo transition [] []
+lets_nothing_go : (transition : Transition) → HoldsNothingAfter transition [] []
 lets_nothing_go (transitions.More leaf) = tt
 lets_nothing_go (transitions.Refused kind) = tt
 lets_nothing_go _ = (refl, refl)
@@ -99,24 +99,24 @@ module _ (C : Table) (d : Decoder) (of : TypeId) (octets : List ℕ) (count : �
   no_piece = search (arith, same_some)
 
   -- octets of a number, which may be whole with them, and the octets that are kept
-  of_number : (order : Order) (at : ℕ) → coding_by d.order d.at d.outer.items ≡ (order, at) →
+  of_number : (order : Order) (at : ℕ) → innermost_coding d.order d.at d.outer.items ≡ (order, at) →
       (whole : Bool) (kept all : List ℕ) (s : Step) →
-      NumberStands (leading_width (tree_in C d.outer.items of.0)) at d.carry octets count whole all
-      →
-      HaveOctetsLeft (ticked_by (length octets - 1) d.outer.items) →
+      BelongToNumber (leading_width (tree_in C d.outer.items of.0)) at d.carry octets count whole
+      all →
+      HaveOctetsLeft (frames_after_octets (length octets - 1) d.outer.items) →
       TransitionFits (tree_in C d.outer.items of.0) of.0 s.transition kept [] →
-      LetsGo s.transition kept [] → HasOutput (tree_in C d.outer.items of.0) s.output →
+      HoldsNothingAfter s.transition kept [] → HasOutput (tree_in C d.outer.items of.0) s.output →
       OutputFitsString (tree_in C d.outer.items of.0) false s.transition s.output →
       ((n : ℕ) → StringGoesOn (tree_in C d.outer.items of.0) None s.transition s.output n) →
       ((coding : Coding) (path : List PathSegment) (here : ℕ) →
       TransitionGives (tree_in C d.outer.items of.0) s.transition s.output kept [] path here
       (after_leading_number (tree_in C d.outer.items of.0) (λ xs at rest.
-      after coding path (tree_in C d.outer.items of.0) (num order xs) at rest)
+      after_number coding path (tree_in C d.outer.items of.0) (num order xs) at rest)
       (block_of whole all here))) →
       TakenTogether C d octets of count s [] kept d.piece.items
   of_number order at coded whole kept all s stands ahead fits lets has string on gives =
-      let nothing_held : still_held s.output d.piece.items ≡ [] =
-      ap (still_held s.output) no_piece ∙ still_nothing s.output in
+      let nothing_held : held_after_output s.output d.piece.items ≡ [] =
+      ap (held_after_output s.output) no_piece ∙ still_nothing s.output in
       record {
         leaf = innermost.Number of;
         goes_on = e;
@@ -142,37 +142,38 @@ module _ (C : Table) (d : Decoder) (of : TypeId) (octets : List ℕ) (count : �
             there ∙ ap (λ (k : Order × ℕ). (k.1 + (count - 1)) % 8) coded in
             rw nothing_held
             (ap (after_leading_number (tree_in C d.outer.items of.0) (λ xs at rest.
-            after coding path (tree_in C d.outer.items of.0) (num coding.order xs) at rest))
+            after_number coding path (tree_in C d.outer.items of.0) (num coding.order xs) at rest))
             (stands.last coding.phase here aligned)
             ∙ (ap (λ o. after_leading_number (tree_in C d.outer.items of.0) (λ xs at rest.
-            after coding path (tree_in C d.outer.items of.0) (num o xs) at rest) (block_of whole
-            all (here + 1))) is
+            after_number coding path (tree_in C d.outer.items of.0) (num o xs) at rest)
+            (block_of whole all (here + 1))) is
             ∙ rw (still_nothing s.output) at t.comes));
         says = λ coding path here. rw no_piece (gives coding path (here + 1)).says;
       }
 
   -- the last octet of the number has come, and no octets are kept
-  comes_here : (order : Order) (at : ℕ) → coding_by d.order d.at d.outer.items ≡ (order, at) →
-      (kept all : List ℕ) (s : Step) → kept ≡ [] →
-      NumberStands (leading_width (tree_in C d.outer.items of.0)) at d.carry octets count true all →
-      HaveOctetsLeft (ticked_by (length octets - 1) d.outer.items) →
+  comes_here : (order : Order) (at : ℕ) → innermost_coding d.order d.at d.outer.items
+      ≡ (order, at) → (kept all : List ℕ) (s : Step) → kept ≡ [] →
+      BelongToNumber (leading_width (tree_in C d.outer.items of.0)) at d.carry octets count true
+      all → HaveOctetsLeft (frames_after_octets (length octets - 1) d.outer.items) →
       IsStepBy (tree_in C d.outer.items of.0) of.0 s →
       ((coding : Coding) (path : List PathSegment) (here : ℕ) →
       TransitionGives (tree_in C d.outer.items of.0) s.transition s.output [] [] path here
-      (after coding path (tree_in C d.outer.items of.0) (num order all) here [])) →
+      (after_number coding path (tree_in C d.outer.items of.0) (num order all) here [])) →
       TakenTogether C d octets of count s [] kept d.piece.items
   comes_here order at coded kept all s empty stands ahead fits gives =
       of_number order at coded true kept all s stands ahead (rw empty fits.transition_fits)
       (rw empty (lets_nothing_go s.transition)) fits.has_output fits.output_fits_string
       fits.string_goes_on (λ coding path here. rw empty (gives coding path here))
 
-  pub comes_leading : (order : Order) (at : ℕ) → coding_by d.order d.at d.outer.items ≡ (
+  pub comes_leading : (order : Order) (at : ℕ) → innermost_coding d.order d.at d.outer.items ≡ (
     order,
     at,
   ) →
       (kept all : List ℕ) (s : Step) → kept ≡ [] →
-      NumberStands (leading_width (tree_in C d.outer.items of.0)) at d.carry octets count true all →
-      HaveOctetsLeft (ticked_by (length octets - 1) d.outer.items) → IsStep C of.0 s →
+      BelongToNumber (leading_width (tree_in C d.outer.items of.0)) at d.carry octets count true
+      all →
+      HaveOctetsLeft (frames_after_octets (length octets - 1) d.outer.items) → IsStep C of.0 s →
       IsStepOf C of.0 (num order all) s → TakenTogether C d octets of count s [] kept d.piece.items
   comes_leading order at coded kept all s empty stands ahead fits gives =
       let few = (stands_at C d f (innermost.Number of) e).room in
@@ -180,13 +181,15 @@ module _ (C : Table) (d : Decoder) (of : TypeId) (octets : List ℕ) (count : �
       (in_frames (λ n. IsStepBy (tree_at C n of.0) of.0 s) d.outer.items few fits)
       (in_frames (λ n. (coding : Coding) (path : List PathSegment) (here : ℕ) →
       TransitionGives (tree_at C n of.0) s.transition s.output [] [] path here
-      (after coding path (tree_at C n of.0) (num order all) here [])) d.outer.items few gives)
+      (after_number coding path (tree_at C n of.0) (num order all) here [])) d.outer.items few
+      gives)
 
   -- a whole number, of which nothing was held
-  pub comes_number : (order : Order) (at : ℕ) → coding_by d.order d.at d.outer.items ≡ (order, at) →
+  pub comes_number : (order : Order) (at : ℕ) → innermost_coding d.order d.at d.outer.items
+      ≡ (order, at) →
       (number : Taken) → d.carry ≡ [] → IsWholeNumber (tree_in C d.outer.items of.0) order at
       octets count number →
-      HaveOctetsLeft (ticked_by (length octets - 1) d.outer.items) →
+      HaveOctetsLeft (frames_after_octets (length octets - 1) d.outer.items) →
       TakenTogether C d octets of count (record {
         transition = transitions.Ended;
         output =
@@ -205,26 +208,28 @@ module _ (C : Table) (d : Decoder) (of : TypeId) (octets : List ℕ) (count : �
       })
       (λ coding path at. subst (λ n. TransitionGives (tree_in C d.outer.items of.0)
       transitions.Ended
-      (outputs.Number number) [] [] path at (after coding path (tree_in C d.outer.items of.0) n at
-      []))
+      (outputs.Number number) [] [] path at (after_number coding path (tree_in C d.outer.items of.0)
+      n at []))
       h.spelled (turns_number coding path (tree_in C d.outer.items of.0) at number h.is))
 
   -- a whole number of four octets, of which none was held
-  pub comes_long : (order : Order) (at : ℕ) → coding_by d.order d.at d.outer.items ≡ (order, at) →
+  pub comes_long : (order : Order) (at : ℕ) → innermost_coding d.order d.at d.outer.items
+      ≡ (order, at) →
       (n : ℕ) (s : Step) → leading_width (tree_in C d.outer.items of.0) ≡ 4 → d.carry ≡ [] →
       IsWholeLong order at octets count n →
-      HaveOctetsLeft (ticked_by (length octets - 1) d.outer.items) → IsStep C of.0 s →
+      HaveOctetsLeft (frames_after_octets (length octets - 1) d.outer.items) → IsStep C of.0 s →
       IsStepOf C of.0 n s → TakenTogether C d octets of count s [] d.carry d.piece.items
   comes_long order at coded n s four empty h ahead fits gives =
       comes_leading order at coded d.carry h.all s empty (rw (empty, four) h.stands) ahead fits
       (subst (λ k. IsStepOf C of.0 k s) h.spelled gives)
 
   -- the last octet of the number is still to come
-  pub number_waits : (order : Order) (at : ℕ) → coding_by d.order d.at d.outer.items ≡ (order, at) →
+  pub number_waits : (order : Order) (at : ℕ) → innermost_coding d.order d.at d.outer.items
+      ≡ (order, at) →
       (all : List ℕ) →
-      NumberStands (leading_width (tree_in C d.outer.items of.0)) at d.carry octets count false all
-      →
-      HaveOctetsLeft (ticked_by (length octets - 1) d.outer.items) →
+      BelongToNumber (leading_width (tree_in C d.outer.items of.0)) at d.carry octets count false
+      all →
+      HaveOctetsLeft (frames_after_octets (length octets - 1) d.outer.items) →
       TakenTogether C d octets of count (record {
         transition = transitions.More (innermost.Number of);
         output = outputs.Nothing;
@@ -245,17 +250,17 @@ module _ (C : Table) (d : Decoder) (of : TypeId) (n : ℕ) (octets : List ℕ) (
   of_order fits gives =
       let leaf = innermost.Opening of n in
       let it : f.leaf ≡ leaf = same_some f.leaf leaf (sym f.goes_on ∙ e) in
-      let clean : IsClean leaf d.carry d.piece.items =
-      subst (λ l. IsClean l d.carry d.piece.items) it f.clean in
-      let kept : still_held s.output d.piece.items ≡ [] =
-      ap (still_held s.output) clean.1 ∙ still_nothing s.output in
+      let clean : HoldsOnlyItsOwn leaf d.carry d.piece.items =
+      subst (λ l. HoldsOnlyItsOwn l d.carry d.piece.items) it f.clean in
+      let kept : held_after_output s.output d.piece.items ≡ [] =
+      ap (held_after_output s.output) clean.1 ∙ still_nothing s.output in
       record {
         leaf = leaf;
         goes_on = e;
         same = refl;
         some = omega arith;
         within = some;
-        ahead = rw (ticked_none d.outer.items) f.ahead;
+        ahead = rw (after_no_octets d.outer.items) f.ahead;
         short = rw clean.1 (omega arith);
         carry = d.carry;
         piece = d.piece.items;
@@ -286,24 +291,24 @@ module _ (C : Table) (d : Decoder) (of : TypeId) (n : ℕ) (octets : List ℕ) (
 
 -- ---- the rest of a piece ahead
 
-pub tail_small : (T : Ty) → tail T ≤ 1
+pub tail_small : (T : Ty) → terminator_size T ≤ 1
 tail_small (Text bound) = omega arith
 tail_small T = omega arith
 
-ends_well : (T : Ty) (n : ℕ) (xs : List ℕ) → (0 < tail T → get_or xs n 0 ≡ 0) →
-    ends T n xs ≡ None
+ends_well : (T : Ty) (n : ℕ) (xs : List ℕ) → (0 < terminator_size T → get_or xs n 0 ≡ 0) →
+    string_end_fault T n xs ≡ None
 ends_well (Text bound) n xs zero_end = rw (zero_end (omega arith)) refl
 ends_well T n xs zero_end = refl
 
-ends_badly : (T : Ty) (n : ℕ) (xs : List ℕ) → 0 < tail T → (get_or xs n 0 ≡ 0 → ⊥) →
-    ends T n xs ≡ Some kinds.StringEnd
+ends_badly : (T : Ty) (n : ℕ) (xs : List ℕ) → 0 < terminator_size T → (get_or xs n 0 ≡ 0 → ⊥) →
+    string_end_fault T n xs ≡ Some kinds.StringEnd
 ends_badly (Text bound) n xs some bad = rw (ne_eqb (get_or xs n 0) 0 bad) refl
 ends_badly T n xs some bad = absurd (omega (arith, some))
 
 module _ (C : Table) (d : Decoder) (of : TypeId) (total offset : ℕ) (octets : List ℕ) (count : ℕ)
     (f : Fits C d)
     (e : d.leaf ≡ Some (innermost.Content of total offset))
-    (ahead : HaveOctetsLeft (ticked_by (length octets - 1) d.outer.items)) where
+    (ahead : HaveOctetsLeft (frames_after_octets (length octets - 1) d.outer.items)) where
   abbrev T : Ty
   T = tree_in C d.outer.items of.0
 
@@ -336,16 +341,16 @@ module _ (C : Table) (d : Decoder) (of : TypeId) (total offset : ℕ) (octets : 
 
   -- all octets but the last leave the piece incomplete, and the last one does this step
   of_content : (s : Step) (rest kept : List ℕ) → 0 < count → count ≤ length octets →
-      IsParted C d.outer.items content_leaf d.piece.items (count - 1) → length kept + length rest ≤
-      32 →
-      TransitionFits T of.0 s.transition d.carry (still_held s.output kept) →
-      LetsGo s.transition d.carry (still_held s.output kept) →
+      LeavesPieceIncomplete C d.outer.items content_leaf d.piece.items (count - 1) →
+      length kept + length rest ≤ 32 →
+      TransitionFits T of.0 s.transition d.carry (held_after_output s.output kept) →
+      HoldsNothingAfter s.transition d.carry (held_after_output s.output kept) →
       HasOutput T s.output → OutputFitsString T (is_text T) s.transition s.output →
       StringGoesOn T (string_offset T content_leaf) s.transition s.output (length (kept ++ rest)) →
       (lines : List PathSegment → ℕ → List ValueAt) →
       ((path : List PathSegment) (here : ℕ) →
       content_step T path total offset here held_before last_octet
-      ≡ after_transition T s.transition d.carry (still_held s.output kept) (lines path here)
+      ≡ after_transition T s.transition d.carry (held_after_output s.output kept) (lines path here)
       (here + 1)) →
       ((path : List PathSegment) (here : ℕ) →
       IsOutput T path (here + 1) s.output (kept ++ rest) (lines path here)) →
@@ -409,16 +414,17 @@ module _ (C : Table) (d : Decoder) (of : TypeId) (total offset : ℕ) (octets : 
   step_of (Some kind) = record { transition = transitions.Refused kind; output = outputs.Nothing }
 
   -- the last piece, with what ends its content
-  comes_end : (size : ℕ) (why : Option ValueFault) → IfSome why IsRule → total - offset ≤ 32 →
-      size ≡ total - offset - length d.piece.items → count ≡ size + tail T →
+  comes_end : (size : ℕ) (why : Option ValueFault) → IfSome why BreaksRule → total - offset ≤ 32 →
+      size ≡ total - offset - length d.piece.items → count ≡ size + terminator_size T →
       count ≤ length octets →
-      ends T (total - offset) (d.piece.items ++ take count octets) ≡ why →
+      string_end_fault T (total - offset) (d.piece.items ++ take count octets) ≡ why →
       TakenTogether C d octets of count (step_of why) (take size octets) d.carry d.piece.items
   comes_end size why rule small sized counted within is =
       let one = tail_small T in
-      let room : length d.piece.items < total - offset + tail T = content.room_last small in
+      let room : length d.piece.items < total - offset + terminator_size T =
+      content.room_last small in
       let some : 0 < count = omega (arith, counted, sized, room, one) in
-      let parted : IsParted C d.outer.items content_leaf d.piece.items (count - 1) = (
+      let parted : LeavesPieceIncomplete C d.outer.items content_leaf d.piece.items (count - 1) = (
         (λ large. absurd (omega (arith, large, small))),
         (λ _. omega (arith, counted, sized, room, one)),
       ) in
@@ -439,7 +445,7 @@ module _ (C : Table) (d : Decoder) (of : TypeId) (total offset : ℕ) (octets : 
       ∙ (take-append-add d.piece.items (take count octets) size
       ∙ ap (λ xs. d.piece.items ++ xs) (take-take size count octets (omega (arith, counted)))) in
       let come : (path : List PathSegment) (here : ℕ) →
-      content_step T path total offset here held_before last_octet ≡ unless T why (here + 1)
+      content_step T path total offset here held_before last_octet ≡ fault_or T why (here + 1)
       (Done (line (here + 1) path (Piece T offset (d.piece.items ++ take size octets) false) ∷ [])
       (here + 1) []) =
       λ path here. rw (← is, ← all, ← with_last some within) (last_whole T path total offset here
@@ -447,11 +453,11 @@ module _ (C : Table) (d : Decoder) (of : TypeId) (total offset : ℕ) (octets : 
       (omega (arith, before_size within, counted, sized, room, one))) in
       go why rule some parted short come
     where
-      go : (why : Option ValueFault) → IfSome why IsRule → 0 < count →
-          IsParted C d.outer.items content_leaf d.piece.items (count - 1) →
+      go : (why : Option ValueFault) → IfSome why BreaksRule → 0 < count →
+          LeavesPieceIncomplete C d.outer.items content_leaf d.piece.items (count - 1) →
           length d.piece.items + length (take size octets) ≤ 32 →
           ((path : List PathSegment) (here : ℕ) →
-          content_step T path total offset here held_before last_octet ≡ unless T why (here + 1)
+          content_step T path total offset here held_before last_octet ≡ fault_or T why (here + 1)
           (Done (line (here + 1) path (Piece T offset (d.piece.items ++ take size octets) false)
           ∷ []) (here + 1) [])) →
           TakenTogether C d octets of count (step_of why) (take size octets) d.carry d.piece.items
@@ -470,14 +476,15 @@ module _ (C : Table) (d : Decoder) (of : TypeId) (total offset : ℕ) (octets : 
       size < count → get_or (d.piece.items ++ take count octets) (total - offset) 0
       ≡ get_or octets size 0
   last_is size small sized below =
-      let room : length d.piece.items < total - offset + tail T = content.room_last small in
+      let room : length d.piece.items < total - offset + terminator_size T =
+      content.room_last small in
       let left : total - offset ≡ length d.piece.items + size =
       omega (arith, sized, room, tail_small T) in
       ap (λ n. get_or (d.piece.items ++ take count octets) n 0) left
       ∙ (get_or-append-add d.piece.items (take count octets) size 0
       ∙ get_or-take count octets size 0 below)
 
-  pub comes_last : (size behind : ℕ) → behind ≡ tail T → total - offset ≤ 32 →
+  pub comes_last : (size behind : ℕ) → behind ≡ terminator_size T → total - offset ≤ 32 →
       size ≡ total - offset - length d.piece.items → count ≡ size + behind →
       count ≤ length octets → (0 < behind → get_or octets size 0 ≡ 0) →
       TakenTogether C d octets of count (step_of None) (take size octets) d.carry d.piece.items
@@ -490,7 +497,7 @@ module _ (C : Table) (d : Decoder) (of : TypeId) (total offset : ℕ) (octets : 
   -- the last octet of a string isn't zero
   pub comes_unended : (size behind : ℕ) (s : Step) →
       s.transition ≡ transitions.Refused kinds.StringEnd → s.output ≡ outputs.Nothing →
-      behind ≡ tail T → total - offset ≤ 32 →
+      behind ≡ terminator_size T → total - offset ≤ 32 →
       size ≡ total - offset - length d.piece.items → count ≡ size + behind →
       count ≤ length octets → 0 < behind → get_or octets size 0 ≢ 0 →
       TakenTogether C d octets of count s (take size octets) d.carry d.piece.items
@@ -502,8 +509,8 @@ module _ (C : Table) (d : Decoder) (of : TypeId) (total offset : ℕ) (octets : 
       bad (sym (last_is size small sized (omega (arith, counted, some))) ∙ zero_end))))
 
   -- octets that leave the piece incomplete
-  pub piece_waits : IsParted C d.outer.items content_leaf d.piece.items (length octets) →
-      count ≡ length octets → 0 < count →
+  pub piece_waits : LeavesPieceIncomplete C d.outer.items content_leaf d.piece.items
+      (length octets) → count ≡ length octets → 0 < count →
       TakenTogether C d octets of count (record {
         transition = transitions.More content_leaf;
         output = outputs.Nothing;
@@ -534,8 +541,8 @@ module _ (C : Table) (d : Decoder) (of : TypeId) (total offset : ℕ) (octets : 
 -- the same for an innermost part of this type
 pub part_waits : (C : Table) (d : Decoder) (octets : List ℕ) (leaf : Innermost) (of : TypeId) →
     of.0 ≡ leaf_type leaf → Fits C d → d.leaf ≡ Some leaf → 0 < length octets →
-    HaveOctetsLeft (ticked_by (length octets - 1) d.outer.items) →
-    IsParted C d.outer.items leaf d.piece.items (length octets) →
+    HaveOctetsLeft (frames_after_octets (length octets - 1) d.outer.items) →
+    LeavesPieceIncomplete C d.outer.items leaf d.piece.items (length octets) →
     TakenTogether C d octets of (length octets) (record {
       transition = transitions.More leaf;
       output = outputs.Nothing;
@@ -553,11 +560,12 @@ part_waits C d octets leaf of same f e some ahead parted = absurd parted
 -- octets that only add to what is held
 adds_gathered : (C : Table) (d new : Decoder) (leaf : Innermost) (octets : List ℕ) →
     IsCountedBy d new (length octets) → Fits C d → d.leaf ≡ Some leaf →
-    Adds C d leaf octets new.carry new.piece.items → Fits C new × AllGathered C d new octets
+    AreHeldAfter C d leaf octets new.carry new.piece.items → Fits C new
+    × AlwaysTakesWithoutLine C d new octets
 adds_gathered C d new (innermost.Number of) octets on f e h =
     number_counted C of d new octets on h.1 f e h.0
 adds_gathered C d new (innermost.Opening of count) octets on f e h = subst
-    (λ xs. Fits C new × AllGathered C d new xs) (sym h.0)
+    (λ xs. Fits C new × AlwaysTakesWithoutLine C d new xs) (sym h.0)
     (none_counted C d new (subst (λ xs. IsCountedBy d new (length xs)) h.0 on) h.1 h.2 f)
 adds_gathered C d new (innermost.Content of total offset) octets on f e h =
     waits_gathered C of total offset (length new.piece.items) (tree_in C d.outer.items of.0) h.2
@@ -568,14 +576,14 @@ adds_gathered C d new (innermost.Content of total offset) octets on f e h =
 -- The decoder `m` is `d` at the last of `count` octets. It has counted the octets before the last
 -- one, and has not taken them.
 pub record IsAtLast (d m : Decoder) (count : ℕ) : Type 0 where
-  pub further : IsFurther d m (count - 1) (ticked_by (count - 1) d.outer.items)
+  pub further : IsFurther d m (count - 1) (frames_after_octets (count - 1) d.outer.items)
 
-abbrev pub at_last : Decoder → ℕ → ArrayVec Frame → Decoder
+abbrev pub at_last : (d : Decoder) (at : ℕ) (outer : ArrayVec Frame) → Decoder
 at_last d at outer = record {
   order = d.order;
   head = d.head;
   at = at;
-  narrow = d.narrow;
+  forbids_wide = d.forbids_wide;
   outer = outer;
   inside = d.inside;
   leaf = d.leaf;
@@ -586,14 +594,16 @@ at_last d at outer = record {
 
 -- the same for a decoder that may hold other octets than `d`
 pub held_at_last : (C : Table) (d now : Decoder) (octets : List ℕ) (of : TypeId) (count at : ℕ)
-    (s : Step) (rest : List ℕ) (outer : ArrayVec Frame) → IsHeldOf C d now octets of count s rest →
-    at ≡ (now.at + (count - 1)) % 8 → outer.items ≡ ticked_by (count - 1) now.outer.items →
+    (s : Step) (rest : List ℕ) (outer : ArrayVec Frame) →
+    HasHeldTogether C d now octets of count s rest →
+    at ≡ (now.at + (count - 1)) % 8 → outer.items
+    ≡ frames_after_octets (count - 1) now.outer.items →
     IsAtLast d (at_last now at outer) count
 held_at_last C d now octets of count at s rest outer h there counted = record {
   further = record {
     order = h.order;
     head = h.head;
-    narrow = h.narrow;
+    forbids_wide = h.forbids_wide;
     at = rw h.at at there;
     outer = rw h.outer at counted;
     inside = h.inside;
@@ -605,12 +615,12 @@ held_at_last C d now octets of count at s rest outer h there counted = record {
 pub held_now : (C : Table) (d : Decoder) (octets : List ℕ) (of : TypeId) (count : ℕ) (s : Step)
     (rest carry : List ℕ) (piece : ArrayVec ℕ) → Fits C d →
     TakenTogether C d octets of count s rest carry piece.items →
-    IsHeldOf C d (held_in d carry piece) octets of count s rest
+    HasHeldTogether C d (with_held d carry piece) octets of count s rest
 held_now C d octets of count s rest carry piece f h = record {
   fits = f;
   order = refl;
   head = refl;
-  narrow = refl;
+  forbids_wide = refl;
   at = refl;
   outer = refl;
   inside = refl;
@@ -621,7 +631,8 @@ held_now C d octets of count s rest carry piece f h = record {
 
 pub is_at_last : (d : Decoder) (count at : ℕ) (outer : ArrayVec Frame) →
     at ≡ (d.at + (count - 1)) % 8 →
-    outer.items ≡ ticked_by (count - 1) d.outer.items → IsAtLast d (at_last d at outer) count
+    outer.items ≡ frames_after_octets (count - 1) d.outer.items →
+    IsAtLast d (at_last d at outer) count
 is_at_last d count at outer there counted = search (arith)
 
 -- the decoder `d` before octets that it takes together, and the decoder `m` at the last of them
@@ -631,7 +642,7 @@ module _ (C : Table) (d : Decoder) (octets : List ℕ) (of : TypeId) (count : �
     (on : IsAtLast d m count) where
   -- the decoder after all but the last of the octets
   abbrev pub before_last : Decoder
-  before_last = held_in m h.carry (record { items = h.piece })
+  before_last = with_held m h.carry (record { items = h.piece })
 
   -- where this decoder can be, `m` can be too
   pub stands_then : (coding : Coding) (here : ℕ) → CanStandAt coding before_last here →
@@ -646,7 +657,8 @@ module _ (C : Table) (d : Decoder) (octets : List ℕ) (of : TypeId) (count : �
   leads : m.leaf ≡ Some h.leaf
   leads = on.further.leaf ∙ h.goes_on
 
-  pub gathered_whole : Fits C before_last × AllGathered C d before_last (take (count - 1) octets)
+  pub gathered_whole : Fits C before_last × AlwaysTakesWithoutLine C d before_last
+      (take (count - 1) octets)
   gathered_whole =
       let t = on.further in
       adds_gathered C d before_last h.leaf (take (count - 1) octets)
@@ -654,7 +666,7 @@ module _ (C : Table) (d : Decoder) (octets : List ℕ) (of : TypeId) (count : �
         record {
           order = t.order;
           head = t.head;
-          narrow = t.narrow;
+          forbids_wide = t.forbids_wide;
           at = t.at;
           outer = t.outer;
           inside = t.inside;
@@ -670,7 +682,7 @@ module _ (C : Table) (d : Decoder) (octets : List ℕ) (of : TypeId) (count : �
   pub same_type : leaf_type fits_then.leaf ≡ of.0
   same_type = search (arith, same_some, fits_then, leads)
 
-  pub around_whole : IsAround C m of.0
+  pub around_whole : FitsAroundPart C m of.0
   around_whole =
       let s = stands_at C before_last fits_then h.leaf leads in
       record {
@@ -686,15 +698,15 @@ module _ (C : Table) (d : Decoder) (octets : List ℕ) (of : TypeId) (count : �
 
   -- the decoder once the last octet is counted
   pub behind_last : (now : Decoder) → now.order ≡ m.order → now.head ≡ m.head →
-      now.narrow ≡ m.narrow →
-      now.at ≡ (m.at + 1) % 8 → AreHeard C (ticked m.outer.items) now.outer.items of.0 s.output
-      (m.piece.items ++ rest) → now.inside ≡ m.inside → now.carry ≡ m.carry →
-      now.piece ≡ m.piece → now.notes ≡ m.notes → IsBehind C m now of.0 s rest
-  behind_last now order head narrow at outer inside carry piece notes = record {
+      now.forbids_wide ≡ m.forbids_wide →
+      now.at ≡ (m.at + 1) % 8 → FramesHear C (frames_after_octet m.outer.items) now.outer.items of.0
+      s.output (m.piece.items ++ rest) → now.inside ≡ m.inside → now.carry ≡ m.carry →
+      now.piece ≡ m.piece → now.notes ≡ m.notes → HasCountedOctet C m now of.0 s rest
+  behind_last now order head forbids_wide at outer inside carry piece notes = record {
     around = around_whole;
     order = order;
     head = head;
-    narrow = narrow;
+    forbids_wide = forbids_wide;
     at = at;
     outer = outer;
     inside = inside;
@@ -704,7 +716,7 @@ module _ (C : Table) (d : Decoder) (octets : List ℕ) (of : TypeId) (count : �
   }
 
   -- the lines that the last octet gives
-  abbrev pub lines_at : Coding → ℕ → List ValueAt
+  abbrev pub lines_at : (coding : Coding) (here : ℕ) → List ValueAt
   lines_at coding here =
       let ps = open_parts C here m.outer.items in
       h.lines (coding_in coding ps) (path_in [] ps) here
@@ -712,7 +724,7 @@ module _ (C : Table) (d : Decoder) (octets : List ℕ) (of : TypeId) (count : �
   -- as much room is left as before the octets
   same_room : 24 - length d.outer.items ≡ 24 - length m.outer.items
   same_room = ap (λ n. 24 - n) (sym (ap length on.further.outer
-      ∙ length_ticked_by (count - 1) d.outer.items))
+      ∙ length_after_octets (count - 1) d.outer.items))
 
   pub says_at : (coding : Coding) (here : ℕ) →
       IsOutput (tree_in C m.outer.items of.0) (path_in [] (open_parts C here m.outer.items))
@@ -725,17 +737,17 @@ module _ (C : Table) (d : Decoder) (octets : List ℕ) (of : TypeId) (count : �
 
   -- what the last octet does, in that room
   comes_at : (coding : Coding) (path : List PathSegment) (here : ℕ) →
-      coding.order ≡ (coding_by d.order d.at d.outer.items).0 →
-      coding.phase here % 8 ≡ ((coding_by d.order d.at d.outer.items).1 + (count - 1)) % 8 →
+      coding.order ≡ (innermost_coding d.order d.at d.outer.items).0 →
+      coding.phase here % 8 ≡ ((innermost_coding d.order d.at d.outer.items).1 + (count - 1)) % 8 →
       leaf_step coding path (leaf_of C m.outer.items h.leaf h.carry h.piece) here
       (get_or octets (count - 1) 0)
       ≡ after_transition (tree_in C m.outer.items of.0) s.transition m.carry
-      (still_held s.output m.piece.items) (h.lines coding path here) (here + 1)
+      (held_after_output s.output m.piece.items) (h.lines coding path here) (here + 1)
   comes_at coding path here order at =
       subst (λ n. leaf_step coding path (leaf_by (tree_at C n (leaf_type h.leaf)) h.leaf h.carry
       h.piece) here (get_or octets (count - 1) 0)
       ≡ after_transition (tree_at C n of.0) s.transition m.carry
-      (still_held s.output m.piece.items) (h.lines coding path here) (here + 1)) same_room
+      (held_after_output s.output m.piece.items) (h.lines coding path here) (here + 1)) same_room
       (h.comes coding path here order at)
 
   fits_string : OutputFitsString (tree_in C m.outer.items of.0)
@@ -745,16 +757,16 @@ module _ (C : Table) (d : Decoder) (octets : List ℕ) (of : TypeId) (count : �
       h.output_fits_string
 
   -- the byte order and the alignment by which the last octet is taken
-  coded : coding_by m.order m.at m.outer.items
+  coded : innermost_coding m.order m.at m.outer.items
       ≡ (
-        (coding_by d.order d.at d.outer.items).0,
-        ((coding_by d.order d.at d.outer.items).1 + (count - 1)) % 8,
+        (innermost_coding d.order d.at d.outer.items).0,
+        ((innermost_coding d.order d.at d.outer.items).1 + (count - 1)) % 8,
       )
-  coded = search (arith, coding_ticked_by)
+  coded = search (arith, coding_after_octets)
 
   pub told_whole : (coding : Coding) (here : ℕ) → CanStandAt coding before_last here →
       decoder_step coding C before_last here (get_or octets (count - 1) 0)
-      ≡ emitted coding C m of.0 s.transition s.output
+      ≡ root_after_transition coding C m of.0 s.transition s.output
       (lines_at coding here) here
   told_whole coding here stands = search
       (arith, get_or, coded_in, coded, leads, comes_at, fits_then.known_outer)
@@ -767,23 +779,24 @@ module _ (C : Table) (d : Decoder) (octets : List ℕ) (of : TypeId) (count : �
 
   pub keeps_noted_whole : (new : Decoder) (coding : Coding) (here : ℕ) (front : List ValueAt) →
       CanStandAt coding before_last here →
-      ends_in_string (emitted coding C m of.0 s.transition s.output (lines_at coding here) here)
+      ends_in_string (root_after_transition coding C m of.0 s.transition s.output
+      (lines_at coding here) here)
       ≡ transition_in_string (tree_in C m.outer.items of.0) s.transition →
       ((o : Noted) → HoldsNoted C true m.notes o →
       HoldsNoted C true new.notes (without_name_if (clears_name s.output)
-      (noted (is_header_root m.head.root) o (lines_at coding here)))) →
+      (note_lines (is_header_root m.head.root) o (lines_at coding here)))) →
       KeepsNoted C m.head.root before_last (read_by_fields C before_last front here) →
       KeepsNoted C m.head.root new (with_front front
       (decoder_step coding C before_last here (get_or octets (count - 1) 0)))
   keeps_noted_whole new coding here front stands inside notes old =
       let T = tree_in C m.outer.items of.0 in
       let header = is_header_root m.head.root in
-      let silent : in_content (leaf_of C m.outer.items h.leaf h.carry h.piece)
+      let silent : in_string_content (leaf_of C m.outer.items h.leaf h.carry h.piece)
       ≡ leaf_in_string T h.leaf =
       leaf_inside C m.outer.items h.leaf h.carry h.piece
       ∙ ap (λ n. leaf_in_string (tree_in C m.outer.items n) h.leaf) h.same in
       let held : HoldsNoted C true m.notes
-      (without_name_if (leaf_in_string T h.leaf) (noted header nothing_noted front)) =
+      (without_name_if (leaf_in_string T h.leaf) (note_lines header nothing_noted front)) =
       rw (leads, silent) at old in
       subst (HoldsNoted C true new.notes) (noted_on header T h.leaf s.transition s.output
       (path_in [] (open_parts C here m.outer.items)) (here + 1) (m.piece.items ++ rest) front
@@ -797,8 +810,8 @@ module _ (C : Table) (d : Decoder) (octets : List ℕ) (of : TypeId) (count : �
       next ≡ transition_offset (tree_in C m.outer.items of.0) s.transition →
       ((o : Noted) → HoldsNoted C false m.notes o →
       HoldsNoted C false new (without_name_if (clears_name s.output)
-      (noted (is_header_root m.head.root) o (lines_at coding here)))) →
-      FitsName m.head.root next new.buffer new.name.items
+      (note_lines (is_header_root m.head.root) o (lines_at coding here)))) →
+      NameBufferFits m.head.root next new.buffer new.name.items
   name_whole coding here next new going to notes =
       let T = tree_in C m.outer.items of.0 in
       let same = same_some fits_then.leaf h.leaf (sym fits_then.goes_on ∙ leads) in
@@ -810,23 +823,24 @@ module _ (C : Table) (d : Decoder) (octets : List ℕ) (of : TypeId) (count : �
       (subst (λ n. StringGoesOn (tree_at C n of.0) (string_offset (tree_at C n of.0) h.leaf)
       s.transition s.output (length (m.piece.items ++ rest))) same_room h.string_goes_on)
       to (says_at coding here) (λ none. fits_then.of_root.keyless none)
-      (subst (λ n. FitsName m.head.root (string_offset (tree_in C m.outer.items n) h.leaf)
+      (subst (λ n. NameBufferFits m.head.root (string_offset (tree_in C m.outer.items n) h.leaf)
       m.notes.buffer m.notes.name.items) h.same
-      (subst (λ l. FitsName m.head.root (string_offset (tree_in C m.outer.items (leaf_type l)) l)
-      m.notes.buffer m.notes.name.items) same fits_then.name)) notes
+      (subst (λ l. NameBufferFits m.head.root (string_offset (tree_in C m.outer.items (leaf_type l))
+      l) m.notes.buffer m.notes.name.items) same fits_then.name)) notes
 
 -- ---- the last octet, if all octets are counted
 
-abbrev pub at_its_last : Decoder → ℕ → Decoder
+abbrev pub at_its_last : (now : Decoder) (count : ℕ) → Decoder
 at_its_last now count =
     at_last now ((now.at + (count - 1)) % 8)
-    (record { items = ticked_by (count - 1) now.outer.items })
+    (record { items = frames_after_octets (count - 1) now.outer.items })
 
 pub held_behind : (C : Table) (d now : Decoder) (octets : List ℕ) (of : TypeId) (count at : ℕ)
-    (s : Step) (rest : List ℕ) (outer : ArrayVec Frame) → IsHeldOf C d now octets of count s rest →
-    at ≡ (now.at + count) % 8 → AreHeard C (ticked_by count now.outer.items) outer.items of.0
-    s.output (now.piece.items ++ rest) →
-    IsBehind C (at_its_last now count) (at_last now at outer) of.0 s rest
+    (s : Step) (rest : List ℕ) (outer : ArrayVec Frame) →
+    HasHeldTogether C d now octets of count s rest →
+    at ≡ (now.at + count) % 8 → FramesHear C (frames_after_octets count now.outer.items) outer.items
+    of.0 s.output (now.piece.items ++ rest) →
+    HasCountedOctet C (at_its_last now count) (at_last now at outer) of.0 s rest
 held_behind C d now octets of count at s rest outer h there counted =
     let some = h.together.some in
     let all : suc (count - 1) ≡ count = omega (arith, some) in
@@ -834,42 +848,43 @@ held_behind C d now octets of count at s rest outer h there counted =
     (held_at_last C d now octets of count _ s rest _ h refl refl) (at_last now at outer) refl refl
     refl
     (omega (arith, there, some))
-    (subst (λ fs. AreHeard C fs outer.items of.0 s.output (now.piece.items ++ rest))
-    (ap (λ n. ticked_by n now.outer.items) (sym all)
-    ∙ sym (ticked_last (count - 1) now.outer.items)) counted) refl refl refl refl
+    (subst (λ fs. FramesHear C fs outer.items of.0 s.output (now.piece.items ++ rest))
+    (ap (λ n. frames_after_octets n now.outer.items) (sym all)
+    ∙ sym (octet_after_octets (count - 1) now.outer.items)) counted) refl refl refl refl
 
 module _ (C : Table) (d now : Decoder) (octets : List ℕ) (of : TypeId) (count : ℕ) (s : Step)
-    (rest : List ℕ) (h : IsHeldOf C d now octets of count s rest) where
-  pub held_around : IsAround C (at_its_last now count) of.0
+    (rest : List ℕ) (h : HasHeldTogether C d now octets of count s rest) where
+  pub held_around : FitsAroundPart C (at_its_last now count) of.0
   held_around = around_whole C d octets of count s rest h.fits (at_its_last now count) h.together
       (held_at_last C d now octets of count _ s rest _ h refl refl)
 
   -- the frames once the octets are counted
-  pub held_known : AreKnown C (ticked_by count now.outer.items)
+  pub held_known : AreKnown C (frames_after_octets count now.outer.items)
   held_known =
       let some = h.together.some in
       let all : suc (count - 1) ≡ count = omega (arith, some) in
-      subst (AreKnown C) (ticked_last (count - 1) now.outer.items
-      ∙ ap (λ n. ticked_by n now.outer.items) all)
-      (known_ticked C (ticked_by (count - 1) now.outer.items) held_around.ahead
+      subst (AreKnown C) (octet_after_octets (count - 1) now.outer.items
+      ∙ ap (λ n. frames_after_octets n now.outer.items) all)
+      (known_after_octet C (frames_after_octets (count - 1) now.outer.items) held_around.ahead
       held_around.known_outer)
 
   pub held_room : length d.outer.items < 24
   held_room =
       let few = held_around.room in
-      let same = length_ticked_by (count - 1) now.outer.items in
+      let same = length_after_octets (count - 1) now.outer.items in
       let outer = ap length h.outer in
       omega (arith, few, same, outer)
 
 pub behind_gives : (C : Table) (d now : Decoder) (of : ℕ) (s : Step) (rest : List ℕ) (here at : ℕ)
-    (lines : List ValueAt) → IsBehind C d now of s rest → Gives C d of s rest here at lines →
-    Gives C now of s rest (here + 1) at lines
+    (lines : List ValueAt) → HasCountedOctet C d now of s rest →
+    AreStepLines C d of s rest here at lines →
+    AreStepLines C now of s rest (here + 1) at lines
 behind_gives C d now of s rest here at lines b says =
-    let frames = ticked d.outer.items in
+    let frames = frames_after_octet d.outer.items in
     let piece = d.piece.items ++ rest in
     let path = path_in [] (open_parts C here d.outer.items) in
-    let counted = places_ticked C 24 here d.outer.items b.around.ahead b.around.known_outer in
-    let tree = tree_ticked C d.outer.items of in
+    let counted = places_after_octet C 24 here d.outer.items b.around.ahead b.around.known_outer in
+    let tree = tree_after_octet C d.outer.items of in
     let said : IsOutput (tree_in C frames of) path at s.output piece lines = rw tree says in
     let heard = b.outer.parts (here + 1) at path lines said in
     let same : path_in [] (open_parts C (here + 1) now.outer.items) ≡ path =

@@ -10,15 +10,15 @@ use Rattle.std.proofs.lemmas.List.Elements.{filter_map-append}
 use Rattle.std.proofs.Math.Seq.{drop-append_seam}
 use Rattle.giop_cdr.specs.Numbers.{num}
 use Rattle.giop_cdr.specs.declared.order.Order.{Order}
-use Rattle.giop_decode.specs.ReadingSteps.{IsRule}
+use Rattle.giop_decode.specs.ReadingSteps.{BreaksRule}
 use Rattle.giop_decode.specs.Noted.{ends_in_string}
-use Rattle.giop_decode.specs.NotedFromLines.{piece, text_of, text_pieces, cut_from, pieces_of, Strings}
-use Rattle.giop_decode.specs.Pieces.{Complete, Block, Partial, block, content, ends, full_piece, full_pieces, last_piece, octets, over, text, unless}
-use Rattle.giop_decode.specs.Reading.{enclosed, after_leading_number, inside, member, opening, ordered, parts_from, read, refused, rest_of, single, sized, wrong, following, led, led_segment, elements}
-use Rattle.giop_decode.specs.ReadResult.{Coding, Count, Done, Fault, Held, Index, ValueAt, Member, Name, Number, Part, Piece, OpenPart, Read, PathSegment, Short, Size, Switch, followed, line, with_front, within, lines_of}
+use Rattle.giop_decode.specs.NotedFromLines.{piece, text_of, text_pieces, pieces_from, pieces_of, Strings}
+use Rattle.giop_decode.specs.Pieces.{Complete, Block, Partial, block, content, string_end_fault, full_piece, full_pieces, last_piece, octets, bound_fault, text, fault_or}
+use Rattle.giop_decode.specs.Reading.{enclosed, after_leading_number, inside, selected_case, from_order_octet, after_order_octet, parts_from, read, disposition_fault, encapsulation_rest, read_single, after_encapsulation_size, number_fault, read_sequel, led, led_segment, recursive_elements}
+use Rattle.giop_decode.specs.ReadResult.{Coding, Count, Done, Fault, Held, Index, ValueAt, Member, Name, Number, Part, Piece, OpenPart, Read, PathSegment, Short, Size, Switch, read_then, line, with_front, within, lines_of}
 use Rattle.giop_decode.specs.declared.progress.ValueFault.TheVariants as kinds
 use Rattle.giop_decode.specs.declared.progress.ValueFault.{ValueFault}
-use Rattle.giop_sig.specs.Types.{tag_of, Array, Encapsulation, OctetKind, Octets, bound_of, Scalar, Sequence, Single, Struct, Text, Ty, Union, Led, Hearing, Told, Untold, Sequel, Then, Ends, Stops, Recursive}
+use Rattle.giop_sig.specs.Types.{discriminator_name, Array, Encapsulation, OctetKind, Octets, bound_of, Scalar, Sequence, Single, Struct, Text, Ty, Union, Led, TypeInference, InferredType, Untold, Sequel, Then, Ends, Stops, Recursive}
 use Rattle.giop_sig.specs.declared.types.Selected.{Selected}
 use Rattle.giop_sig.specs.declared.types.Selected.TheVariants.{Case}
 use Rattle.giop_decode.proofs.Noting.{cut_inside, front_inside}
@@ -55,7 +55,7 @@ then_strings : (front : List ValueAt) (r : Read) → text_pieces front ≡ [] �
 then_strings front r e h = whole_then front [] r e h
 
 followed_strings : (r : Read) (next : ℕ → List ℕ → Read) → Strings r →
-    ((at : ℕ) (s : List ℕ) → Strings (next at s)) → Strings (followed r next)
+    ((at : ℕ) (s : List ℕ) → Strings (next at s)) → Strings (read_then r next)
 followed_strings (Done lines at rest) next h k = search (arith, whole_then, append-nil)
 followed_strings _ next h k = h
 
@@ -64,7 +64,7 @@ within_strings place (Short lines at outer leaf) h = search (arith)
 within_strings place r h = h
 
 unless_strings : (T : Ty) (why : Option ValueFault) (at : ℕ) (r : Read) → Strings r →
-    Strings (unless T why at r)
+    Strings (fault_or T why at r)
 unless_strings T None at r h = h
 unless_strings T (Some kinds.Untyped) at r h = no_strings (Fault [] at kinds.Untyped T) refl
 unless_strings T (Some kind) at r h = search (arith, no_strings)
@@ -85,18 +85,18 @@ parts_strings part h (suc more) i at s =
 -- ---- one string
 
 -- A content that is read from an offset on: it is whole, or it has begun and not ended.
-abbrev Comes : ℕ → ℕ → ℕ → Read → Type 0
+abbrev Comes : (total full offset : ℕ) (r : Read) → Type 0
 Comes total full offset r =
     ((octets : List ℕ) × (offset + length octets ≡ total)
-    × (text_pieces (lines_of r) ≡ cut_from full offset octets))
+    × (text_pieces (lines_of r) ≡ pieces_from full offset octets))
     ⊎ ((ends_in_string r ≡ true) × Each (λ p. p.more ≡ true) (text_pieces (lines_of r)))
 
 -- the end of a string breaks a rule, or it breaks none
 ends_rule : (bound : Option ℕ) (n : ℕ) (octets : List ℕ) →
-    IfSome (ends (Text bound) n octets) IsRule
+    IfSome (string_end_fault (Text bound) n octets) BreaksRule
 ends_rule bound n octets = go (eqb (get_or octets n 0) 0)
   where
-    go : (test : Bool) → IfSome (cond test None (Some kinds.StringEnd)) IsRule
+    go : (test : Bool) → IfSome (cond test None (Some kinds.StringEnd)) BreaksRule
     go true = tt
     go false = tt
 
@@ -115,7 +115,8 @@ last_comes bound path total offset at s ahead = search (
 )
 
 cut_more : (full offset : ℕ) (xs ys : List ℕ) → length xs ≡ 32 →
-    piece offset xs true ∷ cut_from full (offset + 32) ys ≡ cut_from (suc full) offset (xs ++ ys)
+    piece offset xs true ∷ pieces_from full (offset + 32) ys
+    ≡ pieces_from (suc full) offset (xs ++ ys)
 cut_more full offset xs ys h =
     let front : take 32 (xs ++ ys) ≡ xs = take_at xs ys 32 h in
     let behind : drop 32 (xs ++ ys) ≡ ys =
@@ -179,7 +180,7 @@ text_strings bound path zero at s = record {
   none = λ _. refl;
 }
 text_strings bound path (suc n) at s =
-    unless_strings (Text bound) (over bound n) at _
+    unless_strings (Text bound) (bound_fault bound n) at _
     (comes_strings n (content (Text bound) path n (full_pieces n) 0 at s)
     (content_comes bound path n (full_pieces n) 0 at s (omega arith)))
 
@@ -188,7 +189,7 @@ text_strings bound path (suc n) at s =
 -- pieces of a type that is no string, and whose end breaks no rule
 module _ (T : Ty) (none : (offset : ℕ) (octets : List ℕ) (more : Bool) →
     text_of (Piece T offset octets more) ≡ None)
-    (endless : (n : ℕ) (xs : List ℕ) → ends T n xs ≡ None) where
+    (endless : (n : ℕ) (xs : List ℕ) → string_end_fault T n xs ≡ None) where
   bare_last : (path : List PathSegment) (total offset : ℕ) (g : Block) →
       text_pieces (lines_of (last_piece T path total offset g)) ≡ []
   bare_last path total offset (Partial held at) = refl
@@ -210,7 +211,7 @@ module _ (T : Ty) (none : (offset : ℕ) (octets : List ℕ) (more : Bool) →
 octets_strings : (kind : OctetKind) (path : List PathSegment) (n at : ℕ) (s : List ℕ) →
     Strings (octets kind path n at s)
 octets_strings kind path n at s =
-    unless_strings (Octets kind) (over (bound_of kind) n) at _
+    unless_strings (Octets kind) (bound_fault (bound_of kind) n) at _
     (no_strings _ (bare_none (Octets kind) (λ offset octets more. refl) (λ n xs. refl) path n
     (full_pieces n)
     0 at s))
@@ -218,19 +219,20 @@ octets_strings kind path n at s =
 -- ---- any type
 
 single_strings : (path : List PathSegment) (scalar : Scalar) (n at : ℕ) (s : List ℕ) →
-    Strings (single path scalar n at s)
+    Strings (read_single path scalar n at s)
 single_strings path scalar n at s = search (arith, unless_strings, no_strings)
 
 member_strings : (selected : Selected) (case : ℕ → ℕ → List ℕ → Read) →
     ((i at : ℕ) (s : List ℕ) → Strings (case i at s)) → (at : ℕ) (s : List ℕ) →
-    Strings (member selected case at s)
+    Strings (selected_case selected case at s)
 member_strings (Case i) case h at s = h i at s
 member_strings _ case h at s = search (arith, no_strings)
 
 -- ---- encapsulations
 
 module _ (path : List PathSegment) (T : Ty) where
-  rest_strings : (n at : ℕ) (s : List ℕ) → Strings (rest_of path (Encapsulation T) n at s)
+  rest_strings : (n at : ℕ) (s : List ℕ) → Strings
+      (encapsulation_rest path (Encapsulation T) n at s)
   rest_strings zero at s = search (arith, no_strings)
   rest_strings (suc n) at s = search (arith, no_strings, bare_none)
 
@@ -255,7 +257,7 @@ module _ (path : List PathSegment) (T : Ty) where
 module _ (path : List PathSegment) (T : Ty) (value : Coding → ℕ → List ℕ → Read)
     (strings : (coding : Coding) (at : ℕ) (s : List ℕ) → Strings (value coding at s)) where
   ordered_strings : (origin n : ℕ) (order : Option Order) (at : ℕ) (rest : List ℕ) →
-      Strings (ordered path (Encapsulation T) value origin n order at rest)
+      Strings (after_order_octet path (Encapsulation T) value origin n order at rest)
   ordered_strings origin n None at rest = search (arith, no_strings)
   ordered_strings origin n (Some order) at rest = search (
     arith,
@@ -266,11 +268,12 @@ module _ (path : List PathSegment) (T : Ty) (value : Coding → ℕ → List ℕ
   )
 
   opening_strings : (origin n : ℕ) (g : Block) →
-      Strings (opening path (Encapsulation T) value origin n g)
+      Strings (from_order_octet path (Encapsulation T) value origin n g)
   opening_strings origin n (Partial none at) = search (arith, no_strings)
   opening_strings origin n (Complete octets at rest) = search (arith, ordered_strings, get_or)
 
-  sized_strings : (n at : ℕ) (s : List ℕ) → Strings (sized path (Encapsulation T) value n at s)
+  sized_strings : (n at : ℕ) (s : List ℕ) → Strings
+      (after_encapsulation_size path (Encapsulation T) value n at s)
   sized_strings zero at s = search (arith, no_strings)
   sized_strings (suc n) at s = search (arith, opening_strings)
 
@@ -278,12 +281,13 @@ module _ (path : List PathSegment) (T : Ty) (value : Coding → ℕ → List ℕ
 
 following_strings : (T : Ty) (what : Sequel) (part : ℕ → ℕ → List ℕ → Read) →
     ((i at : ℕ) (s : List ℕ) → Strings (part i at s)) → (at : ℕ) (s : List ℕ) →
-    Strings (following T what part at s)
+    Strings (read_sequel T what part at s)
 following_strings T (Then i) part h at s = h i at s
 following_strings T Ends part h at s = no_strings (Done [] at s) refl
 following_strings T Stops part h at s = no_strings (Fault [] at kinds.Untyped T) refl
 
-led_strings : (T : Ty) (h : Hearing) (told : Told) (part : ℕ → ℕ → List ℕ → Read) (r : Read) →
+led_strings : (T : Ty) (h : TypeInference) (told : InferredType) (part : ℕ → ℕ → List ℕ → Read)
+    (r : Read) →
     ((i at : ℕ) (s : List ℕ) → Strings (part i at s)) → Strings r → Strings (led T h told part r)
 led_strings T h told part (Done lines at rest) each k = search (
   arith,
@@ -298,7 +302,7 @@ led_strings T h told part (Fault lines at kind S) each k = k
 
 elements_strings : (T : Ty) (fits : Bool) (n : ℕ) (parts : ℕ → List ℕ → Read) →
     ((at : ℕ) (s : List ℕ) → Strings (parts at s)) → (at : ℕ) (s : List ℕ) →
-    Strings (elements T fits n parts at s)
+    Strings (recursive_elements T fits n parts at s)
 elements_strings T true n parts h at s = h at s
 elements_strings T false zero parts h at s = no_strings (Done [] at s) refl
 elements_strings T false (suc n) parts h at s = no_strings (Fault [] at kinds.Untyped T) refl
@@ -324,14 +328,14 @@ read_strings coding path (Array count T) at s =
 read_strings coding path (Sequence bound T) at s =
     headed_strings (Sequence bound T) _ (λ xs at rest.
     let n = num coding.order xs in
-    unless_strings (Sequence bound T) (over bound n) at _
+    unless_strings (Sequence bound T) (bound_fault bound n) at _
     (then_strings (line at path (Count n) ∷ []) _ refl
     (parts_strings _ (λ i at s. within_strings (Part (Sequence bound T) i n) _
     (read_strings coding (path ++ Index i ∷ []) T at s)) n 0 at rest))) _
 read_strings coding path (Recursive bound fits T) at s =
     headed_strings (Recursive bound fits T) _ (λ xs at rest.
     let n = num coding.order xs in
-    unless_strings (Recursive bound fits T) (over bound n) at _
+    unless_strings (Recursive bound fits T) (bound_fault bound n) at _
     (then_strings (line at path (Count n) ∷ []) _ refl
     (elements_strings (Recursive bound fits T) fits n _ (λ at s.
     parts_strings _ (λ i at s. within_strings (Part (Recursive bound fits T) i n) _
@@ -340,9 +344,11 @@ read_strings coding path (Union choice scalar select names cases) at s =
     headed_strings (Union choice scalar select names cases) _ (λ xs at rest.
     let T = Union choice scalar select names cases in
     let n = num coding.order xs in
-    let front : List ValueAt = line at (path ++ Switch (tag_of choice scalar names) ∷ [])
+    let front : List ValueAt = line at (path ++ Switch
+    (discriminator_name choice scalar names) ∷ [])
     (Number scalar n) ∷ [] in
-    unless_strings T (wrong scalar n) at _ (unless_strings T (refused (select n)) at _
+    unless_strings T (number_fault scalar n) at _
+    (unless_strings T (disposition_fault (select n)) at _
     (then_strings front _ refl (member_strings (select n) _ (λ i at s. within_strings (Member T i) _
     (read_strings coding (path ++ Name (names i) ∷ []) (cases i) at s)) at rest)))) _
 read_strings coding path (Encapsulation T) at s =

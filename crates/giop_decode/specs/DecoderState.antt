@@ -9,27 +9,30 @@ use Rattle.giop_decode.specs.SeenState as states
 use Rattle.giop_print.specs.declared.path.Root.{Root}
 use Rattle.giop_sig.specs.Table.{Table, is_narrow, seen}
 use Rattle.giop_sig.specs.Types.{Ty}
-pub use Rattle.giop_decode.specs.SeenState.{AreOfRoot, CanStandAt, GoesOn, HoldsNoted, HoldsNoKey, IsAnswer, IsDone, IsFault, IsHeld, IsWhose, KeepsNoted, added_lines, held_key, interface_of, read_by_fields, read_by_leaf, status_of, whose}
+pub use Rattle.giop_decode.specs.SeenState.{NotesFitRoot, CanStandAt, GoesOn, HoldsNoted, HoldsNoKey, IsAnswer, IsDone, IsFault, BufferHolds, IsInterfaceOfKey, KeepsNoted, added_lines, key_octets_held, interface_of, read_by_fields, read_by_leaf, status_of, interface_of_key}
 
 -- a decoder for a message of this minor version
-abbrev pub IsOfVersion : ℕ → Table → Decoder → Type 0
-IsOfVersion minor C d = d.narrow ≡ is_narrow minor C
+abbrev pub IsOfVersion : (minor : ℕ) (C : Table) (d : Decoder) → Type 0
+IsOfVersion minor C d = d.forbids_wide ≡ is_narrow minor C
 
 -- a decoder keeps the version that it is for
-abbrev pub KeepsVersion : Decoder → Decoder → Type 0
-KeepsVersion old new = new.narrow ≡ old.narrow
+abbrev pub KeepsVersion : (old new : Decoder) → Type 0
+KeepsVersion old new = new.forbids_wide ≡ old.forbids_wide
 
-abbrev pub Fits : Table → Decoder → Type 0
-Fits C d = states.Fits (seen d.narrow C) d
+abbrev pub Fits : (C : Table) (d : Decoder) → Type 0
+Fits C d = states.Fits (seen d.forbids_wide C) d
 
-abbrev pub Reads : Table → Ty → Coding → ℕ → ℕ → Root → Decoder → List ℕ → Type 0
-Reads C T coding at message root d s = states.Reads (seen d.narrow C) T coding at message root d s
+abbrev pub Reads : (C : Table) (T : Ty) (coding : Coding) (at message : ℕ) (root : Root)
+    (d : Decoder) (octets : List ℕ) → Type 0
+Reads C T coding at message root d octets =
+    states.Reads (seen d.forbids_wide C) T coding at message root d octets
 
-abbrev pub Takes : Table → Ty → Coding → ℕ → ℕ → Root → Decoder → List ℕ → ℕ → Progress → Type 0
-Takes C T coding at message root d s octet p =
-    states.Takes (seen d.narrow C) T coding at message root d s octet p
+abbrev pub Takes : (C : Table) (T : Ty) (coding : Coding) (at message : ℕ) (root : Root)
+    (d : Decoder) (octets : List ℕ) (octet : ℕ) (p : Progress) → Type 0
+Takes C T coding at message root d octets octet p =
+    states.Takes (seen d.forbids_wide C) T coding at message root d octets octet p
 
-abbrev pub TakesRun : Table → Ty → Coding → ℕ → ℕ → Root → Decoder → List ℕ → List ℕ → Progress →
-    Type 0
-TakesRun C T coding at message root d s octets p =
-    runs.TakesRun (seen d.narrow C) T coding at message root d s octets p
+abbrev pub TakesRun : (C : Table) (T : Ty) (coding : Coding) (at message : ℕ) (root : Root)
+    (d : Decoder) (taken octets : List ℕ) (p : Progress) → Type 0
+TakesRun C T coding at message root d taken octets p =
+    runs.TakesRun (seen d.forbids_wide C) T coding at message root d taken octets p

@@ -12,29 +12,31 @@ use Rattle.giop_sig.specs.Types.{Ty}
 
 -- where in its string the unfinished piece begins, if the innermost part, of this type, is in a
 -- string
-abbrev pub string_offset : Ty → Innermost → Option ℕ
+abbrev pub string_offset : (T : Ty) (leaf : Innermost) → Option ℕ
 string_offset T (innermost.Content of total offset) = cond (is_text T) (Some offset) None
 string_offset T leaf = None
 
 -- This many octets are noted of a string whose unfinished piece begins at this offset: all before
 -- it. In a body there may be fewer: a checkpoint of a version that noted nothing of bodies has
 -- none.
-abbrev pub IsNotedOf : Root → ℕ → ℕ → Type 0
-IsNotedOf roots.Body offset n = n ≤ offset
-IsNotedOf root offset n = n ≡ offset
+abbrev pub IsNotedCount : (root : Root) (offset count : ℕ) → Type 0
+IsNotedCount roots.Body offset count = count ≤ offset
+IsNotedCount root offset count = count ≡ offset
 
 -- What the buffer can have if the innermost part is in no string, or in one whose unfinished piece
 -- begins at this offset. It may have an object key in a string too, if nothing is noted of the
 -- string yet.
-abbrev pub FitsName : Root → Option ℕ → Buffer → List ℕ → Type 0
-FitsName root None buffers.Begun name = name ≡ []
-FitsName root None buffers.Whole name = Unit {0}
-FitsName root None buffers.TooLong name = ⊥
-FitsName root (Some offset) buffers.Begun name =
-    (length name ≤ 128) × IsNotedOf root offset (length name)
-FitsName root (Some offset) buffers.Whole name = ⊥
-FitsName root (Some offset) buffers.TooLong name = (128 < offset) × (name ≡ [])
-FitsName root None buffers.Key name = length name ≤ 128
-FitsName root (Some offset) buffers.Key name = (length name ≤ 128) × IsNotedOf root offset 0
-FitsName root None buffers.LongKey name = name ≡ []
-FitsName root (Some offset) buffers.LongKey name = (name ≡ []) × IsNotedOf root offset 0
+abbrev pub NameBufferFits : (root : Root) (offset : Option ℕ) (buffer : Buffer) (name : List ℕ) →
+    Type 0
+NameBufferFits root None buffers.Begun name = name ≡ []
+NameBufferFits root None buffers.Whole name = Unit {0}
+NameBufferFits root None buffers.TooLong name = ⊥
+NameBufferFits root (Some offset) buffers.Begun name =
+    (length name ≤ 128) × IsNotedCount root offset (length name)
+NameBufferFits root (Some offset) buffers.Whole name = ⊥
+NameBufferFits root (Some offset) buffers.TooLong name = (128 < offset) × (name ≡ [])
+NameBufferFits root None buffers.Key name = length name ≤ 128
+NameBufferFits root (Some offset) buffers.Key name = (length name ≤ 128)
+    × IsNotedCount root offset 0
+NameBufferFits root None buffers.LongKey name = name ≡ []
+NameBufferFits root (Some offset) buffers.LongKey name = (name ≡ []) × IsNotedCount root offset 0

@@ -16,8 +16,8 @@ use Rattle.giop_sig.specs.Trees.{tree_at}
 use Rattle.giop_sig.specs.declared.types.TypeId.{TypeId}
 
 -- a frame, at its next part
-abbrev pub next_of : Frame → Frame
-next_of f = record {
+abbrev pub frame_at_next : (frame : Frame) → Frame
+frame_at_next f = record {
   of = f.of;
   index = f.index + 1;
   count = f.count;
@@ -26,11 +26,11 @@ next_of f = record {
 }
 
 -- the frames around the innermost one
-abbrev pub frames_above : List Frame → List Frame
+abbrev pub frames_above : (frames : List Frame) → List Frame
 frames_above frames = take (length frames - 1) frames
 
 -- what the lines of the innermost frame's parts begin with, up to the part's own segment
-abbrev pub front_text : Table → Decoder → List ℕ
+abbrev pub front_text : (C : Table) (d : Decoder) → List ℕ
 front_text C d =
     headed d.head.message (root_word d.head.root ++ frames_text C (frames_above d.outer.items))
     []
@@ -48,7 +48,7 @@ pub record IsPartAhead (C : Table) (d : Decoder) (part : PartAhead) : Type 0 whe
   pub outer : d.outer.items ≡ frames_above d.outer.items ++ part.frame ∷ []
 
 -- another primitive comes next in a frame
-pub record IsNextNumber (C : Table) (frame : Frame) (next : TypeId) : Type 0 where
+pub record IsNextPrimitive (C : Table) (frame : Frame) (next : TypeId) : Type 0 where
   pub below : frame.index + 1 < frame.count
   pub known : next.0 < length C.types
   pub number : next.0 ≡ part_number C frame.of.0 (frame.index + 1)
@@ -58,14 +58,15 @@ pub record IsNextNumber (C : Table) (frame : Frame) (next : TypeId) : Type 0 whe
   pub is : (room : ℕ) → tree_at C room next.0 ≡ Single (Plain prim)
 
 -- the decoder at the part that comes next
-pub record IsAtNext (C : Table) (d new : Decoder) (part : PartAhead) (next : TypeId) : Type 0 where
-  pub order : new.order ≡ d.order
-  pub head : new.head ≡ d.head
-  pub narrow : new.narrow ≡ d.narrow
-  pub inside : new.inside ≡ d.inside
-  pub notes : new.notes ≡ d.notes
-  pub carry : new.carry ≡ d.carry
-  pub piece : new.piece ≡ d.piece
-  pub at : new.at ≡ (d.at + part.count) % 8
-  pub leaf : new.leaf ≡ Some (innermost.Number next)
-  pub outer : new.outer.items ≡ frames_above d.outer.items ++ next_of part.frame ∷ []
+pub record IsAtNextPart (C : Table) (d new : Decoder) (part : PartAhead) (next : TypeId) : Type 0
+  where
+    pub order : new.order ≡ d.order
+    pub head : new.head ≡ d.head
+    pub forbids_wide : new.forbids_wide ≡ d.forbids_wide
+    pub inside : new.inside ≡ d.inside
+    pub notes : new.notes ≡ d.notes
+    pub carry : new.carry ≡ d.carry
+    pub piece : new.piece ≡ d.piece
+    pub at : new.at ≡ (d.at + part.count) % 8
+    pub leaf : new.leaf ≡ Some (innermost.Number next)
+    pub outer : new.outer.items ≡ frames_above d.outer.items ++ frame_at_next part.frame ∷ []

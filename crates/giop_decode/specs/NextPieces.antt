@@ -13,12 +13,12 @@ use Rattle.giop_sig.specs.Trees.{tree_at}
 use Rattle.giop_sig.specs.Types.{Octets, Raw}
 
 -- nothing is noted of octet sequences: this isn't a header, or the table has no KEYs
-abbrev pub IsQuiet : Table → Root → Type 0
-IsQuiet C root = (is_header_root root ≡ false)
+abbrev pub NotesNoOctets : (C : Table) (root : Root) → Type 0
+NotesNoOctets C root = (is_header_root root ≡ false)
     ⊎ ((has_keys C ≡ false) × ((key : List ℕ) → interface_in C key ≡ None))
 
 -- what a line begins with, up to the end of its path, if the frames are the parts around it
-abbrev pub path_front : Table → Decoder → List ℕ
+abbrev pub path_front : (C : Table) (d : Decoder) → List ℕ
 path_front C d = headed d.head.message (root_word d.head.root ++ frames_text C d.outer.items) []
 
 -- All octets of a full piece of an octet sequence come at the front of these octets. None of them
@@ -32,12 +32,12 @@ pub record IsPieceAhead (C : Table) (d : Decoder) (ahead : PieceAhead) : Type 0 
   pub none_held : d.piece.items ≡ []
 
 -- the decoder after that piece, 32 octets further on, with the same phase modulo 8
-abbrev pub behind_piece : Decoder → PieceAhead → Decoder
-behind_piece d ahead = record {
+abbrev pub decoder_after_piece : (d : Decoder) (piece : PieceAhead) → Decoder
+decoder_after_piece d ahead = record {
   order = d.order;
   head = d.head;
   at = d.at;
-  narrow = d.narrow;
+  forbids_wide = d.forbids_wide;
   outer = d.outer;
   inside = d.inside;
   leaf = Some (innermost.Content ahead.of ahead.total (ahead.offset + 32));

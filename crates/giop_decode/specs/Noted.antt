@@ -27,81 +27,82 @@ pub record Noted : Type 0 where
   pub key_so_far : List ℕ
 
 -- whether a segment is that of the member with this name
-abbrev pub is_name : List ℕ → PathSegment → Bool
+abbrev pub is_name : (name : List ℕ) (segment : PathSegment) → Bool
 is_name name (Name octets) = bytes_eq name octets
 is_name name segment = false
 
 -- whether a path is that of the root's member with this name
-abbrev pub is_member : List ℕ → List PathSegment → Bool
+abbrev pub is_member : (name : List ℕ) (path : List PathSegment) → Bool
 is_member name (segment ∷ []) = is_name name segment
 is_member name path = false
 
 -- The path of the object key in a header: a member of the header in GIOP 1.0 and 1.1, and of its
 -- target in 1.2 (GIOP Message Formats, Request Header).
-abbrev pub is_key_path : List PathSegment → Bool
+abbrev pub is_key_path : (path : List PathSegment) → Bool
 is_key_path (segment ∷ []) = is_name (codes "object_key") segment
 is_key_path (outer ∷ inner ∷ []) =
     is_name (codes "target") outer && is_name (codes "object_key") inner
 is_key_path path = false
 
 -- a string of more than 128 octets is no name
-abbrev pub name_if : List ℕ → Option (List ℕ)
-name_if octets = cond (ltb 128 (length octets)) None (Some octets)
+abbrev pub name_if_short : (octets : List ℕ) → Option (List ℕ)
+name_if_short octets = cond (ltb 128 (length octets)) None (Some octets)
 
 -- after a piece of a string whose end is to come
-abbrev pub with_piece : Noted → List ℕ → Noted
-with_piece h octets = record h { name = None; so_far = h.so_far ++ octets; key_so_far = [] }
+abbrev pub with_string_piece : (before : Noted) (octets : List ℕ) → Noted
+with_string_piece h octets = record h { name = None; so_far = h.so_far ++ octets; key_so_far = [] }
 
 -- after the end of a string: this is the last one, and no piece of another has come
-abbrev pub ended : Noted → Noted
-ended h = record h { name = name_if h.so_far; so_far = [] }
+abbrev pub with_string_ended : (before : Noted) → Noted
+with_string_ended h = record h { name = name_if_short h.so_far; so_far = [] }
 
 -- after a piece of a string; `more` says whether more pieces come
-abbrev pub noted_piece : Noted → List ℕ → Bool → Noted
-noted_piece h octets true = with_piece h octets
-noted_piece h octets false = ended (with_piece h octets)
+abbrev pub note_string_piece : (before : Noted) (octets : List ℕ) (more : Bool) → Noted
+note_string_piece h octets true = with_string_piece h octets
+note_string_piece h octets false = with_string_ended (with_string_piece h octets)
 
 -- the first of two numbers, if there is one, or else the second
-abbrev pub first_of : Option ℕ → Option ℕ → Option ℕ
-first_of (Some n) later = Some n
-first_of None later = later
+abbrev pub first_present : (first later : Option ℕ) → Option ℕ
+first_present (Some first) later = Some first
+first_present None later = later
 
 -- after one more value; `is_id` says whether it is a request id
-abbrev pub note_value : Bool → Noted → Value → Noted
+abbrev pub note_value : (is_id : Bool) (before : Noted) (value : Value) → Noted
 note_value is_id h (Number (Plain prims.ULong) n) =
-    record h { request_id = first_of h.request_id (cond is_id (Some n) None) }
+    record h { request_id = first_present h.request_id (cond is_id (Some n) None) }
 note_value is_id h (Number (Enum count names) n) = record h { status = Some n; key = None }
-note_value is_id h (Piece (Text bound) offset octets more) = noted_piece h octets more
+note_value is_id h (Piece (Text bound) offset octets more) = note_string_piece h octets more
 note_value is_id h value = h
 
 -- An object key is noted before all strings and enums: in the header of a Request the operation
 -- comes after it, and there is no enum.
-abbrev pub may_have_key : Noted → Bool
+abbrev pub may_have_key : (noted : Noted) → Bool
 may_have_key h = is_none h.name && ((length h.so_far == 0) && is_none h.status)
 
 -- after a piece of an object key whose end is to come
-abbrev pub with_key_piece : Noted → List ℕ → Noted
+abbrev pub with_key_piece : (before : Noted) (octets : List ℕ) → Noted
 with_key_piece h octets = record h { key = None; key_so_far = h.key_so_far ++ octets }
 
 -- after the end of an object key
-abbrev pub key_ended : Noted → Noted
-key_ended h = record h { key = name_if h.key_so_far; key_so_far = [] }
+abbrev pub with_key_ended : (before : Noted) → Noted
+with_key_ended h = record h { key = name_if_short h.key_so_far; key_so_far = [] }
 
 -- after a piece of an object key; `more` says whether more pieces come
-abbrev pub noted_key : Noted → List ℕ → Bool → Noted
-noted_key h octets more =
+abbrev pub note_key_piece : (before : Noted) (octets : List ℕ) (more : Bool) → Noted
+note_key_piece h octets more =
     cond (may_have_key h)
-    (cond more (with_key_piece h octets) (key_ended (with_key_piece h octets))) h
+    (cond more (with_key_piece h octets) (with_key_ended (with_key_piece h octets))) h
 
 -- after one more value; `is_key` says whether it is at the place of an object key
-abbrev pub note_key : Bool → Noted → Value → Noted
+abbrev pub note_key : (is_key : Bool) (before : Noted) (value : Value) → Noted
 note_key is_key h (Piece (Octets (Raw bound)) offset octets more) =
-    cond is_key (noted_key h octets more) h
+    cond is_key (note_key_piece h octets more) h
 note_key is_key h value = h
 
 -- Whether a reply is expected, after one more value. GIOP 1.0 and 1.1 say it with a boolean, 1.2
 -- with bit 0 of an octet (GIOP Message Formats, Request Header).
-abbrev pub expects_after : Bool → List PathSegment → Value → Option Bool → Option Bool
+abbrev pub expects_after : (is_header : Bool) (path : List PathSegment) (value : Value)
+    (before : Option Bool) → Option Bool
 expects_after is_header path (Number (Plain prims.Boolean) n) before =
     cond (is_header && is_member (codes "response_expected") path) (Some (n % 2 == 1)) before
 expects_after is_header path (Number (Plain prims.Octet) n) before =
@@ -109,20 +110,20 @@ expects_after is_header path (Number (Plain prims.Octet) n) before =
 expects_after is_header path value before = before
 
 -- the same notes, but with this
-abbrev pub with_expects : Noted → Option Bool → Noted
+abbrev pub with_expects : (before : Noted) (expects : Option Bool) → Noted
 with_expects h expects = record h { expects_reply = expects }
 
 -- after one more line; `is_header` says whether it is one of a header
-abbrev pub note : Bool → Noted → ValueAt → Noted
-note is_header h l =
+abbrev pub note_line : (is_header : Bool) (before : Noted) (line : ValueAt) → Noted
+note_line is_header h l =
     note_key (is_header && is_key_path l.path)
     (with_expects (note_value (is_header && is_member (codes "request_id") l.path) h l.value)
     (expects_after is_header l.path l.value h.expects_reply)) l.value
 
 -- after these lines, one after another
-abbrev pub noted : Bool → Noted → List ValueAt → Noted
-noted is_header h [] = h
-noted is_header h (l ∷ ls) = noted is_header (note is_header h l) ls
+abbrev pub note_lines : (is_header : Bool) (before : Noted) (lines : List ValueAt) → Noted
+note_lines is_header h [] = h
+note_lines is_header h (l ∷ ls) = note_lines is_header (note_line is_header h l) ls
 
 -- before the first line
 abbrev pub nothing_noted : Noted
@@ -137,48 +138,48 @@ nothing_noted = record {
 }
 
 -- whether the innermost part is the content of a string: its length was read, and its end wasn't
-abbrev pub in_content : Leaf → Bool
-in_content (Content (Text bound) total offset piece) = true
-in_content leaf = false
+abbrev pub in_string_content : (leaf : Leaf) → Bool
+in_string_content (Content (Text bound) total offset piece) = true
+in_string_content leaf = false
 
 -- whether a type is that of a string
-abbrev pub is_text : Ty → Bool
+abbrev pub is_text : (T : Ty) → Bool
 is_text (Text bound) = true
 is_text T = false
 
 -- whether a reading ends within a string, or at a fault in one
-abbrev pub ends_in_string : Read → Bool
+abbrev pub ends_in_string : (read : Read) → Bool
 ends_in_string (Done lines at rest) = false
-ends_in_string (Short lines at outer leaf) = in_content leaf
+ends_in_string (Short lines at outer leaf) = in_string_content leaf
 ends_in_string (Fault lines at kinds.Untyped T) = false
 ends_in_string (Fault lines at kind T) = is_text T
 
 -- within a string there is no name
-abbrev pub without_name_if : Bool → Noted → Noted
+abbrev pub without_name_if : (is_string : Bool) (before : Noted) → Noted
 without_name_if false h = h
 without_name_if true h = record h { name = None }
 
 -- what is noted of a reading
-abbrev pub noted_of : Bool → Read → Noted
+abbrev pub noted_of : (is_header : Bool) (r : Read) → Noted
 noted_of is_header r = without_name_if (ends_in_string r)
-    (noted is_header nothing_noted (lines_of r))
+    (note_lines is_header nothing_noted (lines_of r))
 
 -- whether a value is a string's last piece
-abbrev pub ends_text : Value → Bool
+abbrev pub ends_text : (value : Value) → Bool
 ends_text (Piece (Text bound) offset octets false) = true
 ends_text value = false
 
 -- whether a line ends the operation of a Request's header
-abbrev pub ends_operation : Bool → ValueAt → Bool
+abbrev pub ends_operation : (is_header : Bool) (line : ValueAt) → Bool
 ends_operation is_header l =
     is_header && (is_member (codes "operation") l.path && ends_text l.value)
 
 -- whether one of these lines ends the operation of a Request's header
-abbrev pub names_operation : Bool → List ValueAt → Bool
+abbrev pub names_operation : (is_header : Bool) (lines : List ValueAt) → Bool
 names_operation is_header [] = false
 names_operation is_header (l ∷ ls) = ends_operation is_header l || names_operation is_header ls
 
 -- whether this is the root of a header, whose request id and operation are known by their names
-abbrev pub is_header_root : Root → Bool
+abbrev pub is_header_root : (root : Root) → Bool
 is_header_root roots.Header = true
 is_header_root root = false

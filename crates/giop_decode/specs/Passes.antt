@@ -5,20 +5,21 @@ use Rattle.giop_decode.specs.declared.frame.Frame.{Frame}
 use Rattle.giop_decode.specs.declared.leaf.Finished.{Finished}
 use Rattle.giop_decode.specs.declared.leaf.Step.{Step}
 use Rattle.giop_decode.specs.declared.progress.Progress.{Progress}
-use Rattle.giop_decode.specs.Heard.{AreHeard}
+use Rattle.giop_decode.specs.Heard.{FramesHear}
 use Rattle.giop_decode.specs.ReadResult.{Coding, ValueAt}
 use Rattle.giop_decode.specs.ReadingSteps.{path_in}
-use Rattle.giop_decode.specs.SeenState.{AreOfRoot, CanStandAt, GoesOn, HoldsNoted}
-use Rattle.giop_decode.specs.DecoderSteps.{Comes, IsAround, IsNext, emitted}
-use Rattle.giop_decode.specs.Noted.{Noted, ends_in_string, is_header_root, noted, without_name_if}
+use Rattle.giop_decode.specs.SeenState.{NotesFitRoot, CanStandAt, GoesOn, HoldsNoted}
+use Rattle.giop_decode.specs.DecoderSteps.{AgreesWithReading, FitsAroundPart, IsAfterTransition, root_after_transition}
+use Rattle.giop_decode.specs.Noted.{Noted, ends_in_string, is_header_root, note_lines, without_name_if}
 use Rattle.giop_decode.specs.NotingSteps.{clears_name, transition_in_string}
-use Rattle.giop_decode.specs.Transitions.{IsOutput, open_parts, ticked, tree_in}
+use Rattle.giop_decode.specs.Transitions.{IsOutput, open_parts, frames_after_octet, tree_in}
 use Rattle.giop_sig.specs.Table.{Table}
 
 -- The lines, up to this offset, of what an octet finishes: those of a part within these frames,
 -- which are at offset `here`.
-abbrev pub Finishes : Table → List Frame → Finished → ℕ → ℕ → List ValueAt → Type 0
-Finishes C outer finished here at lines =
+abbrev pub AreFinishedLines : (C : Table) (outer : List Frame) (finished : Finished) (here at : ℕ)
+    (lines : List ValueAt) → Type 0
+AreFinishedLines C outer finished here at lines =
     IsOutput (tree_in C outer finished.of.0) (path_in [] (open_parts C here outer)) at
     finished.output
     (finished.held.now ++ finished.rest.now) lines
@@ -26,22 +27,25 @@ Finishes C outer finished here at lines =
 -- The lines that the step gives up to this offset, for a part of this type within the frames around
 -- it, which are at offset `here`: those of its output. A piece has the octets that are held, and
 -- then the rest.
-abbrev pub Gives : Table → Decoder → ℕ → Step → List ℕ → ℕ → ℕ → List ValueAt → Type 0
-Gives C d of step rest here at lines =
+abbrev pub AreStepLines : (C : Table) (d : Decoder) (of : ℕ) (step : Step) (rest : List ℕ)
+    (here at : ℕ)
+    (lines : List ValueAt) → Type 0
+AreStepLines C d of step rest here at lines =
     IsOutput (tree_in C d.outer.items of) (path_in [] (open_parts C here d.outer.items)) at
     step.output
     (d.piece.items ++ rest) lines
 
 -- a decoder at an octet of a part of this type; the octet was counted since, and its line was heard
 -- in the parts around
-pub record IsBehind (C : Table) (d now : Decoder) (of : ℕ) (step : Step) (rest : List ℕ) : Type 0
+pub record HasCountedOctet (C : Table) (d now : Decoder) (of : ℕ) (step : Step)
+    (rest : List ℕ) : Type 0
   where
-    pub around : IsAround C d of
+    pub around : FitsAroundPart C d of
     pub order : now.order ≡ d.order
     pub head : now.head ≡ d.head
-    pub narrow : now.narrow ≡ d.narrow
+    pub forbids_wide : now.forbids_wide ≡ d.forbids_wide
     pub at : now.at ≡ (d.at + 1) % 8
-    pub outer : AreHeard C (ticked d.outer.items) now.outer.items of step.output
+    pub outer : FramesHear C (frames_after_octet d.outer.items) now.outer.items of step.output
         (d.piece.items ++ rest)
     pub inside : now.inside ≡ d.inside
     pub carry : now.carry ≡ d.carry
@@ -49,24 +53,25 @@ pub record IsBehind (C : Table) (d now : Decoder) (of : ℕ) (step : Step) (rest
     pub notes : now.notes ≡ d.notes
 
 -- The output of the octet was noted and its transition made, with this answer.
-pub record Passes (C : Table) (d new : Decoder) (of : ℕ) (step : Step) (rest : List ℕ)
+pub record NotesAndAdvances (C : Table) (d new : Decoder) (of : ℕ) (step : Step) (rest : List ℕ)
     (p : Progress) : Type 0 where
   pub order : new.order ≡ d.order
   pub head : new.head ≡ d.head
-  pub narrow : new.narrow ≡ d.narrow
+  pub forbids_wide : new.forbids_wide ≡ d.forbids_wide
   -- one octet further on
   pub here : (coding : Coding) (here : ℕ) → CanStandAt coding d here →
       CanStandAt coding new (here + 1)
-  pub next : GoesOn p → IsNext C d new of step.transition
+  pub next : GoesOn p → IsAfterTransition C d new of step.transition
   pub steps : (coding : Coding) (here : ℕ) (lines : List ValueAt) →
-      Gives C d of step rest here (here + 1) lines →
-      Comes C new p (here + 1) (emitted coding C d of step.transition step.output lines here)
+      AreStepLines C d of step rest here (here + 1) lines →
+      AgreesWithReading C new p (here + 1) (root_after_transition coding C d of step.transition
+      step.output lines here)
   pub inside : (coding : Coding) (here : ℕ) (lines : List ValueAt) →
-      Gives C d of step rest here (here + 1) lines →
-      ends_in_string (emitted coding C d of step.transition step.output lines here)
+      AreStepLines C d of step rest here (here + 1) lines →
+      ends_in_string (root_after_transition coding C d of step.transition step.output lines here)
       ≡ transition_in_string (tree_in C d.outer.items of) step.transition
-  pub of_root : AreOfRoot C d.head.root d.notes → AreOfRoot C d.head.root new.notes
+  pub of_root : NotesFitRoot C d.head.root d.notes → NotesFitRoot C d.head.root new.notes
   pub notes : (asked : Bool) (h : Noted) (here at : ℕ) (lines : List ValueAt) →
-      HoldsNoted C asked d.notes h → Gives C d of step rest here at lines →
+      HoldsNoted C asked d.notes h → AreStepLines C d of step rest here at lines →
       HoldsNoted C asked new.notes (without_name_if (clears_name step.output)
-      (noted (is_header_root d.head.root) h lines))
+      (note_lines (is_header_root d.head.root) h lines))

@@ -13,73 +13,79 @@ pub data Block : Type 0 where
   Partial : List ℕ → ℕ → Block
   Complete : List ℕ → ℕ → List ℕ → Block
 
--- the next n octets
-unfoldable pub block : ℕ → ℕ → List ℕ → Block
-block n at s =
-    cond (ltb (length s) n) (Partial s (at + length s)) (Complete (take n s) (at + n) (drop n s))
+-- the next `count` octets
+unfoldable pub block : (count at : ℕ) (octets : List ℕ) → Block
+block count at octets =
+    cond (ltb (length octets) count) (Partial octets (at + length octets))
+    (Complete (take count octets) (at + count) (drop count octets))
 
--- a number of n octets, after its padding: an octet is padding while its phase isn't aligned
-unfoldable pub number : (ℕ → ℕ) → ℕ → ℕ → List ℕ → Block
-number phase n at [] = Partial [] at
-number phase n at (b ∷ s) =
-    cond (ltb 0 (padding (phase at) n)) (number phase n (at + 1) s) (block n at (b ∷ s))
+-- a number of `size` octets, after its padding: an octet is padding while its phase isn't aligned
+unfoldable pub number : (phase : ℕ → ℕ) (size at : ℕ) (octets : List ℕ) → Block
+number phase size at [] = Partial [] at
+number phase size at (b ∷ s) =
+    cond (ltb 0 (padding (phase at) size)) (number phase size (at + 1) s) (block size at (b ∷ s))
 
 -- a fault instead of a value, if there is one
-abbrev pub unless : Ty → Option ValueFault → ℕ → Read → Read
-unless T None at read = read
-unless T (Some kind) at read = Fault [] at kind T
+abbrev pub fault_or : (T : Ty) (kind : Option ValueFault) (at : ℕ) (read : Read) → Read
+fault_or T None at read = read
+fault_or T (Some kind) at read = Fault [] at kind T
 
 -- what is wrong with a count, or with the length of a content, that is above its bound
-abbrev pub over : Option ℕ → ℕ → Option ValueFault
-over None n = None
-over (Some bound) n = cond (ltb bound n) (Some kinds.Bound) None
+abbrev pub bound_fault : (bound : Option ℕ) (count : ℕ) → Option ValueFault
+bound_fault None count = None
+bound_fault (Some bound) count = cond (ltb bound count) (Some kinds.Bound) None
 
 -- how many pieces of a content aren't the last
-abbrev pub full_pieces : ℕ → ℕ
-full_pieces n = (n - 1) / 32
+abbrev pub full_pieces : (count : ℕ) → ℕ
+full_pieces count = (count - 1) / 32
 
 -- how many octets come after a content: a zero after that of a string
-abbrev pub tail : Ty → ℕ
-tail (Text bound) = 1
-tail T = 0
+abbrev pub terminator_size : (T : Ty) → ℕ
+terminator_size (Text bound) = 1
+terminator_size T = 0
 
--- what is wrong with the end of a content of n octets, together with those after it: a string must
--- end in a zero
-abbrev pub ends : Ty → ℕ → List ℕ → Option ValueFault
-ends (Text bound) n octets = cond (eqb (get_or octets n 0) 0) None (Some kinds.StringEnd)
-ends T n octets = None
+-- what is wrong with the end of a content of `count` octets, together with those after it: a string
+-- must end in a zero
+abbrev pub string_end_fault : (T : Ty) (count : ℕ) (octets : List ℕ) → Option ValueFault
+string_end_fault (Text bound) count octets = cond (eqb (get_or octets count 0) 0) None
+    (Some kinds.StringEnd)
+string_end_fault T count octets = None
 
 -- the last piece of a content, or what has come of it: up to 32 octets, from an offset in the
 -- content
-abbrev pub last_piece : Ty → List PathSegment → ℕ → ℕ → Block → Read
+abbrev pub last_piece : (T : Ty) (path : List PathSegment) (total offset : ℕ) (block : Block) → Read
 last_piece T path total offset (Partial piece at) = Short [] at [] (Content T total offset piece)
 last_piece T path total offset (Complete octets at rest) =
-    unless T (ends T (total - offset) octets) at
+    fault_or T (string_end_fault T (total - offset) octets) at
     (Done (line at path (Piece T offset (take (total - offset) octets) false) ∷ []) at rest)
 
 -- a piece of 32 octets, from an offset in the content, and then what is read next
-abbrev pub full_piece : Ty → List PathSegment → ℕ → ℕ → (ℕ → List ℕ → Read) → Block → Read
+abbrev pub full_piece : (T : Ty) (path : List PathSegment) (total offset : ℕ)
+    (next : ℕ → List ℕ → Read) (block : Block) → Read
 full_piece T path total offset next (Partial piece at) =
     Short [] at [] (Content T total offset piece)
 full_piece T path total offset next (Complete octets at rest) =
     with_front (line at path (Piece T offset octets true) ∷ []) (next at rest)
 
 -- a content from an offset in it on; `full` of its pieces aren't the last
-abbrev pub content : Ty → List PathSegment → ℕ → ℕ → ℕ → ℕ → List ℕ → Read
-content T path total zero offset at s =
-    last_piece T path total offset (block (total - offset + tail T) at s)
-content T path total (suc full) offset at s =
-    full_piece T path total offset (content T path total full (offset + 32)) (block 32 at s)
+abbrev pub content : (T : Ty) (path : List PathSegment) (total full offset at : ℕ)
+    (octets : List ℕ) → Read
+content T path total zero offset at octets =
+    last_piece T path total offset (block (total - offset + terminator_size T) at octets)
+content T path total (suc full) offset at octets =
+    full_piece T path total offset (content T path total full (offset + 32)) (block 32 at octets)
 
 -- what comes after the length of a string, which counts its zero; a string of length 0 is empty,
 -- and ends there
-abbrev pub text : Option ℕ → List PathSegment → ℕ → ℕ → List ℕ → Read
+abbrev pub text : (bound : Option ℕ) (path : List PathSegment) (count at : ℕ) (rest : List ℕ) → Read
 text bound path zero at rest = Done (line at path (Piece (Text bound) 0 [] false) ∷ []) at rest
-text bound path (suc n) at rest =
-    unless (Text bound) (over bound n) at (content (Text bound) path n (full_pieces n) 0 at rest)
+text bound path (suc count) at rest =
+    fault_or (Text bound) (bound_fault bound count) at
+    (content (Text bound) path count (full_pieces count) 0 at rest)
 
 -- what comes after the number of octets of a kind
-abbrev pub octets : OctetKind → List PathSegment → ℕ → ℕ → List ℕ → Read
-octets kind path n at rest =
-    unless (Octets kind) (over (bound_of kind) n) at
-    (content (Octets kind) path n (full_pieces n) 0 at rest)
+abbrev pub octets : (kind : OctetKind) (path : List PathSegment) (count at : ℕ) (rest : List ℕ) →
+    Read
+octets kind path count at rest =
+    fault_or (Octets kind) (bound_fault (bound_of kind) count) at
+    (content (Octets kind) path count (full_pieces count) 0 at rest)

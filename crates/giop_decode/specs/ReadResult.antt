@@ -2,7 +2,7 @@
 use Rattle.std.specs.Prelude.{◌≡◌, ℕ, ◌+◌, ◌-◌, ◌%◌, Bool, cond, ltb, List, ◌∷◌, ◌++◌, Option}
 use Rattle.giop_cdr.specs.declared.order.Order.{Order}
 use Rattle.giop_decode.specs.declared.progress.ValueFault.{ValueFault}
-use Rattle.giop_sig.specs.Types.{Scalar, Ty, Told}
+use Rattle.giop_sig.specs.Types.{Scalar, Ty, InferredType}
 
 -- ---- lines
 
@@ -34,7 +34,7 @@ pub record ValueAt : Type 0 where
   pub value : Value
 
 -- the line of a value at a path; the offset is that just after its last octet
-abbrev pub line : ℕ → List PathSegment → Value → ValueAt
+abbrev pub line : (at : ℕ) (path : List PathSegment) (value : Value) → ValueAt
 line at path value = record { at = at; path = path; value = value }
 
 -- ---- how octets are taken
@@ -46,23 +46,23 @@ pub record Coding : Type 0 where
   pub phase : ℕ → ℕ
 
 -- this order, and alignment counted from this offset
-abbrev pub coded : Order → ℕ → Coding
-coded order origin = record { order = order; phase = λ at. at - origin }
+abbrev pub coding_from : (order : Order) (origin : ℕ) → Coding
+coding_from order origin = record { order = order; phase = λ at. at - origin }
 
 -- the coding of a message: alignment is counted from its first octet
-abbrev pub plain : Order → Coding
-plain order = record { order = order; phase = λ at. at }
+abbrev pub message_coding : (order : Order) → Coding
+message_coding order = record { order = order; phase = λ at. at }
 
 -- From this offset on octets are of a Fragment of GIOP 1.1: its alignment is counted from its own
 -- first octet, so that its payload begins at 12.
-abbrev pub seamed : Coding → ℕ → Coding
-seamed coding here = record {
+abbrev pub fragment_aligned_from : (coding : Coding) (here : ℕ) → Coding
+fragment_aligned_from coding here = record {
   order = coding.order;
   phase = λ at. cond (ltb at here) (coding.phase at) (12 + (at - here));
 }
 
 -- no Fragment begins after this offset: each octet counts one more
-abbrev pub IsEvenFrom : Coding → ℕ → Type 0
+abbrev pub IsEvenFrom : (coding : Coding) (here : ℕ) → Type 0
 IsEvenFrom coding here = (k : ℕ) → coding.phase (here + k) % 8 ≡ (coding.phase here + k) % 8
 
 -- ---- parts that have begun and not ended
@@ -76,7 +76,7 @@ pub data OpenPart : Type 0 where
   -- an encapsulation: how its octets are taken, and the offset at which they end
   Inside : Ty → Coding → ℕ → OpenPart
   -- a part that tells what comes after it, and what it has told so far
-  Telling : Ty → Told → OpenPart
+  Telling : Ty → InferredType → OpenPart
 
 -- the innermost part
 pub data Leaf : Type 0 where
@@ -99,25 +99,25 @@ pub data Read : Type 0 where
   Fault : List ValueAt → ℕ → ValueFault → Ty → Read
 
 -- the lines of a reading
-abbrev pub lines_of : Read → List ValueAt
+abbrev pub lines_of : (read : Read) → List ValueAt
 lines_of (Done lines at rest) = lines
 lines_of (Short lines at outer leaf) = lines
 lines_of (Fault lines at kind S) = lines
 
 -- a reading with these lines before its own
-abbrev pub with_front : List ValueAt → Read → Read
+abbrev pub with_front : (front : List ValueAt) (read : Read) → Read
 with_front front (Done lines at rest) = Done (front ++ lines) at rest
 with_front front (Short lines at outer leaf) = Short (front ++ lines) at outer leaf
 with_front front (Fault lines at kind S) = Fault (front ++ lines) at kind S
 
 -- what comes next is read from where the first reading ended
-abbrev pub followed : Read → (ℕ → List ℕ → Read) → Read
-followed (Done lines at rest) next = with_front lines (next at rest)
-followed (Short lines at outer leaf) next = Short lines at outer leaf
-followed (Fault lines at kind S) next = Fault lines at kind S
+abbrev pub read_then : (read : Read) (next : ℕ → List ℕ → Read) → Read
+read_then (Done lines at rest) next = with_front lines (next at rest)
+read_then (Short lines at outer leaf) next = Short lines at outer leaf
+read_then (Fault lines at kind S) next = Fault lines at kind S
 
 -- a reading within a part
-abbrev pub within : OpenPart → Read → Read
+abbrev pub within : (part : OpenPart) (read : Read) → Read
 within place (Done lines at rest) = Done lines at rest
 within place (Short lines at outer leaf) = Short lines at (place ∷ outer) leaf
 within place (Fault lines at kind S) = Fault lines at kind S

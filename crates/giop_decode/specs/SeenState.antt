@@ -13,9 +13,9 @@ use Rattle.giop_decode.specs.declared.progress.Progress.TheVariants as progress
 use Rattle.giop_decode.specs.ReadResult.{Coding, IsEvenFrom, ValueAt, Read, Done, Short, Fault, lines_of}
 use Rattle.giop_decode.specs.Reading.{reading}
 use Rattle.giop_decode.specs.Fits.{FitsIn}
-use Rattle.giop_decode.specs.NameBuffer.{FitsName, string_offset}
+use Rattle.giop_decode.specs.NameBuffer.{NameBufferFits, string_offset}
 use Rattle.giop_decode.specs.Noted.{Noted, noted_of, is_header_root, names_operation}
-use Rattle.giop_decode.specs.Transitions.{open_parts, AreKnown, HaveOctetsLeft, StandAt, is_inside, Link, leaf_of, leaf_type, tree_in, IsClean}
+use Rattle.giop_decode.specs.Transitions.{open_parts, AreKnown, HaveOctetsLeft, StandAt, within_of, Link, leaf_of, leaf_type, tree_in, HoldsOnlyItsOwn}
 use Rattle.giop_print.specs.declared.path.Root.{Root}
 use Rattle.giop_sig.specs.Types.{Ty}
 use Rattle.giop_sig.specs.Fits.{IsFit}
@@ -25,28 +25,28 @@ use Rattle.giop_sig.specs.Trees.{tree}
 
 -- ---- what its notes can have
 
-abbrev pub status_of : Last → Option ℕ
+abbrev pub status_of : (last : Last) → Option ℕ
 status_of (lasts.Status n) = Some n
 status_of last = None
 
-abbrev pub interface_of : Last → Option InterfaceId
+abbrev pub interface_of : (last : Last) → Option InterfaceId
 interface_of (lasts.Interface interface) = Some interface
 interface_of last = None
 
 -- the buffer has no octets of an object key
-abbrev pub HoldsNoKey : Buffer → Type 0
+abbrev pub HoldsNoKey : (buffer : Buffer) → Type 0
 HoldsNoKey buffers.Key = ⊥
 HoldsNoKey buffers.LongKey = ⊥
 HoldsNoKey buffer = Unit {0}
 
 -- Only a header has a request id and an object key. The interface of the key is one of the table,
 -- and a key is held only if the table has KEYs.
-pub record AreOfRoot (C : Table) (root : Root) (m : Notes) : Type 0 where
-  pub id : is_header_root root ≡ false → m.request_id ≡ None
-  pub no_interface : is_header_root root ≡ false → interface_of m.last ≡ None
-  pub no_key : is_header_root root ≡ false → HoldsNoKey m.buffer
-  pub keyless : has_keys C ≡ false → HoldsNoKey m.buffer
-  pub interface : IfSome (interface_of m.last) (λ i. i.0 < length C.interfaces.names)
+pub record NotesFitRoot (C : Table) (root : Root) (notes : Notes) : Type 0 where
+  pub id : is_header_root root ≡ false → notes.request_id ≡ None
+  pub no_interface : is_header_root root ≡ false → interface_of notes.last ≡ None
+  pub no_key : is_header_root root ≡ false → HoldsNoKey notes.buffer
+  pub keyless : has_keys C ≡ false → HoldsNoKey notes.buffer
+  pub interface : IfSome (interface_of notes.last) (λ i. i.0 < length C.interfaces.names)
 
 -- ---- a decoder for a catalogue
 
@@ -67,110 +67,115 @@ pub record Fits (C : Table) (d : Decoder) : Type 0 where
   pub known_root : root < length C.types
   pub link : Link C root d.outer.items (leaf_type leaf)
   pub fit : IsFit 24 (tree C root)
-  pub narrow : d.narrow ≡ C.narrow
+  pub forbids_wide : d.forbids_wide ≡ C.forbids_wide
   -- an offset that its encapsulations may be at
   pub here : ℕ
   pub stands : StandAt here d.outer.items
   pub fits : FitsIn (tree C root) (open_parts C here d.outer.items)
       (leaf_of C d.outer.items leaf d.carry d.piece.items)
   pub ahead : HaveOctetsLeft d.outer.items
-  pub inside : d.inside ≡ is_inside d.outer.items
+  pub inside : d.inside ≡ within_of d.outer.items
   pub known_outer : AreKnown C d.outer.items
   pub known : leaf_type leaf < length C.types
-  pub clean : IsClean leaf d.carry d.piece.items
+  pub clean : HoldsOnlyItsOwn leaf d.carry d.piece.items
   pub at : d.at < 8
-  pub of_root : AreOfRoot C d.head.root d.notes
-  pub name : FitsName d.head.root (string_offset (tree_in C d.outer.items (leaf_type leaf)) leaf)
-      d.notes.buffer d.notes.name.items
+  pub of_root : NotesFitRoot C d.head.root d.notes
+  pub name : NameBufferFits d.head.root (string_offset (tree_in C d.outer.items (leaf_type leaf))
+      leaf) d.notes.buffer d.notes.name.items
 
 -- the value has ended
-abbrev pub IsDone : Decoder → Type 0
+abbrev pub IsDone : (d : Decoder) → Type 0
 IsDone d = d.leaf ≡ None
 
 -- ---- a decoder that has read a list
 
 -- the reading that the fields of a decoder stand for, with this innermost part, and with these
 -- lines at this offset
-abbrev pub read_by_leaf : Table → Decoder → Option Innermost → List ValueAt → ℕ → Read
+abbrev pub read_by_leaf : (C : Table) (d : Decoder) (leaf : Option Innermost) (lines : List ValueAt)
+    (at : ℕ) → Read
 read_by_leaf C d None lines at = Done lines at []
 read_by_leaf C d (Some leaf) lines at =
     Short lines at (open_parts C at d.outer.items)
     (leaf_of C d.outer.items leaf d.carry d.piece.items)
 
 -- the reading that the fields of a decoder stand for, with these lines at this offset
-abbrev pub read_by_fields : Table → Decoder → List ValueAt → ℕ → Read
+abbrev pub read_by_fields : (C : Table) (d : Decoder) (lines : List ValueAt) (at : ℕ) → Read
 read_by_fields C d lines at = read_by_leaf C d d.leaf lines at
 
 -- What the name buffer has: the last name, the octets of a string that hasn't ended, or those of an
 -- object key; none if they are more than 128.
-abbrev pub IsHeld : Buffer → List ℕ → Option (List ℕ) → List ℕ → List ℕ → Type 0
-IsHeld buffers.Whole octets name so_far key_so_far =
+abbrev pub BufferHolds : (buffer : Buffer) (octets : List ℕ) (name : Option (List ℕ))
+    (string_so_far key_so_far : List ℕ) → Type 0
+BufferHolds buffers.Whole octets name so_far key_so_far =
     (name ≡ Some octets) × (so_far ≡ []) × (key_so_far ≡ [])
-IsHeld buffers.Begun octets name so_far key_so_far =
+BufferHolds buffers.Begun octets name so_far key_so_far =
     (name ≡ None) × (so_far ≡ octets) × (length octets ≤ 128) × (key_so_far ≡ [])
-IsHeld buffers.TooLong octets name so_far key_so_far =
+BufferHolds buffers.TooLong octets name so_far key_so_far =
     (name ≡ None) × (octets ≡ []) × (128 < length so_far) × (key_so_far ≡ [])
-IsHeld buffers.Key octets name so_far key_so_far =
+BufferHolds buffers.Key octets name so_far key_so_far =
     (name ≡ None) × (so_far ≡ []) × (length octets ≤ 128) × (key_so_far ≡ octets)
-IsHeld buffers.LongKey octets name so_far key_so_far =
+BufferHolds buffers.LongKey octets name so_far key_so_far =
     (name ≡ None) × (so_far ≡ []) × (octets ≡ []) × (128 < length key_so_far)
 
 -- The octets that are held of an object key: none if the table has no KEYs, as no key has an
 -- interface then.
-abbrev pub held_key : Table → List ℕ → List ℕ
-held_key C [] = []
-held_key C (x ∷ so_far) = cond (has_keys C) (x ∷ so_far) []
+abbrev pub key_octets_held : (C : Table) (octets : List ℕ) → List ℕ
+key_octets_held C [] = []
+key_octets_held C (x ∷ so_far) = cond (has_keys C) (x ∷ so_far) []
 
 -- the interface of an object key in a table
-abbrev pub whose : Table → Option (List ℕ) → Option InterfaceId
-whose C None = None
-whose C (Some key) = interface_in C key
+abbrev pub interface_of_key : (C : Table) (key : Option (List ℕ)) → Option InterfaceId
+interface_of_key C None = None
+interface_of_key C (Some key) = interface_in C key
 
 -- the same, if it is asked for
-abbrev pub IsWhose : Table → Bool → Option InterfaceId → Option (List ℕ) → Type 0
-IsWhose C true interface key = interface ≡ whose C key
-IsWhose C false interface key = Unit {0}
+abbrev pub IsInterfaceOfKey : (C : Table) (is_asked : Bool) (interface : Option InterfaceId)
+    (key : Option (List ℕ)) → Type 0
+IsInterfaceOfKey C true interface key = interface ≡ interface_of_key C key
+IsInterfaceOfKey C false interface key = Unit {0}
 
 -- The notes have what was noted: the request id, the status, whether a reply is expected, the
 -- interface of the object key if it is asked for, and the name or the octets of one or of a key.
-pub record HaveNoted (C : Table) (asked : Bool) (m : Notes) (h : Noted) : Type 0 where
-  pub request_id : m.request_id ≡ h.request_id
-  pub status : status_of m.last ≡ h.status
-  pub interface : IsWhose C asked (interface_of m.last) h.key
-  pub expects_reply : m.expects_reply ≡ h.expects_reply
-  pub name : IsHeld m.buffer m.name.items h.name h.so_far (held_key C h.key_so_far)
+pub record HaveNoted (C : Table) (asked : Bool) (notes : Notes) (noted : Noted) : Type 0 where
+  pub request_id : notes.request_id ≡ noted.request_id
+  pub status : status_of notes.last ≡ noted.status
+  pub interface : IsInterfaceOfKey C asked (interface_of notes.last) noted.key
+  pub expects_reply : notes.expects_reply ≡ noted.expects_reply
+  pub name : BufferHolds notes.buffer notes.name.items noted.name noted.so_far
+      (key_octets_held C noted.key_so_far)
 
 -- the same for a table, whichever version of messages sees it
-abbrev pub HoldsNoted : Table → Bool → Notes → Noted → Type 0
+abbrev pub HoldsNoted : (C : Table) (asked : Bool) (notes : Notes) (noted : Noted) → Type 0
 HoldsNoted C asked m h = HaveNoted (seen false C) asked m h
 
 -- the notes of the decoder are those of a reading, whether it goes on, has ended or is at a fault
-abbrev pub KeepsNoted : Table → Root → Decoder → Read → Type 0
+abbrev pub KeepsNoted : (C : Table) (root : Root) (d : Decoder) (read : Read) → Type 0
 KeepsNoted C root d r = HoldsNoted C true d.notes (noted_of (is_header_root root) r)
 
 -- The fields of the decoder are what reading the list has begun and not ended, and what is noted of
 -- it.
 pub record Reads (C : Table) (T : Ty) (coding : Coding) (at message : ℕ) (root : Root) (d : Decoder)
-    (s : List ℕ) : Type 0 where
+    (octets : List ℕ) : Type 0 where
   pub lines : List ValueAt
-  pub is : reading coding [] T at s ≡ read_by_fields C d lines (at + length s)
-  pub keeps_noted : KeepsNoted C root d (reading coding [] T at s)
-  pub narrow : d.narrow ≡ C.narrow
+  pub is : reading coding [] T at octets ≡ read_by_fields C d lines (at + length octets)
+  pub keeps_noted : KeepsNoted C root d (reading coding [] T at octets)
+  pub forbids_wide : d.forbids_wide ≡ C.forbids_wide
   pub same_message : d.head.message ≡ message
   pub same_root : d.head.root ≡ root
-  pub offset : CanStandAt coding d (at + length s)
+  pub offset : CanStandAt coding d (at + length octets)
 
 -- ---- one more octet
 
 -- the lines of the octet
-abbrev pub added_lines : Coding → Ty → ℕ → List ℕ → ℕ → List ValueAt
-added_lines coding T at s octet =
-    drop (length (lines_of (reading coding [] T at s)))
-    (lines_of (reading coding [] T at (s ++ octet ∷ [])))
+abbrev pub added_lines : (coding : Coding) (T : Ty) (at : ℕ) (octets : List ℕ) (octet : ℕ) →
+    List ValueAt
+added_lines coding T at octets octet =
+    drop (length (lines_of (reading coding [] T at octets)))
+    (lines_of (reading coding [] T at (octets ++ octet ∷ [])))
 
 -- The answer to the last octet of a list that ends at this offset: the value goes on, has ended at
 -- that octet, or is at a fault there. `named` says whether the octet ends an operation.
-abbrev pub IsAnswer : ℕ → Bool → Progress → Read → Type 0
+abbrev pub IsAnswer : (end : ℕ) (named : Bool) (p : Progress) (r : Read) → Type 0
 IsAnswer end named progress.More (Short lines at outer leaf) = named ≡ false
 IsAnswer end named progress.Named (Short lines at outer leaf) = named ≡ true
 IsAnswer end named progress.Done (Done lines at rest) = rest ≡ []
@@ -178,22 +183,22 @@ IsAnswer end named (progress.Fault kind) (Fault lines at why T) = (kind ≡ why)
 IsAnswer end named p r = ⊥
 
 -- the value goes on
-abbrev pub GoesOn : Progress → Type 0
+abbrev pub GoesOn : (progress : Progress) → Type 0
 GoesOn progress.More = Unit {0}
 GoesOn progress.Named = Unit {0}
 GoesOn p = ⊥
 
 -- the octet breaks a rule
-abbrev pub IsFault : Progress → Type 0
+abbrev pub IsFault : (progress : Progress) → Type 0
 IsFault (progress.Fault kind) = Unit {0}
 IsFault p = ⊥
 
 -- A decoder that has read a list gives this answer to one more octet. It has then read the longer
 -- list, unless there is a fault.
 pub record Takes (C : Table) (T : Ty) (coding : Coding) (at message : ℕ) (root : Root) (d : Decoder)
-    (s : List ℕ) (octet : ℕ) (p : Progress) : Type 0 where
-  pub answer : IsAnswer (at + length (s ++ octet ∷ []))
-      (names_operation (is_header_root root) (added_lines coding T at s octet)) p
-      (reading coding [] T at (s ++ octet ∷ []))
-  pub reads : (IsFault p → ⊥) → Reads C T coding at message root d (s ++ octet ∷ [])
-  pub keeps_noted : KeepsNoted C root d (reading coding [] T at (s ++ octet ∷ []))
+    (taken : List ℕ) (octet : ℕ) (p : Progress) : Type 0 where
+  pub answer : IsAnswer (at + length (taken ++ octet ∷ []))
+      (names_operation (is_header_root root) (added_lines coding T at taken octet)) p
+      (reading coding [] T at (taken ++ octet ∷ []))
+  pub reads : (IsFault p → ⊥) → Reads C T coding at message root d (taken ++ octet ∷ [])
+  pub keeps_noted : KeepsNoted C root d (reading coding [] T at (taken ++ octet ∷ []))

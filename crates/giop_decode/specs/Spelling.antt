@@ -14,7 +14,7 @@ use Rattle.giop_sig.specs.Names.{marked_name}
 use Rattle.giop_sig.specs.Types.{Plain, Enum, Marked, Text, OctetKind, Octets, Raw, WideText, WideChar, Encapsulation}
 
 -- the text of a segment: a name after a dot, or an index in brackets
-abbrev pub segment_text : PathSegment → List ℕ
+abbrev pub segment_text : (segment : PathSegment) → List ℕ
 segment_text (Name name) = name_segment name
 segment_text (Index i) = index_segment i
 segment_text (Switch None) = name_segment (codes "switch")
@@ -22,12 +22,12 @@ segment_text (Switch (Some name)) = name_segment name
 segment_text Held = []
 
 -- the text of segments, one after another
-abbrev pub segments_text : List PathSegment → List ℕ
+abbrev pub segments_text : (path_segments : List PathSegment) → List ℕ
 segments_text [] = []
 segments_text (s ∷ ss) = segment_text s ++ segments_text ss
 
 -- the text of a path below a root
-unfoldable pub path_text : Root → List PathSegment → List ℕ
+unfoldable pub path_text : (root : Root) (path : List PathSegment) → List ℕ
 path_text root path = root_word root ++ segments_text path
 
 -- the words of a number that is a value of its primitive type
@@ -37,13 +37,13 @@ number_words p (Some number) = spaced (kind_word p) ∷ number_text (size_of p) 
 
 -- the words of a number with a mark: a kind has a word, and any other number may have a name after
 -- it
-abbrev pub marked_words : Option (List ℕ) → Option (List ℕ) → ℕ → List (List ℕ)
-marked_words (Some word) name n = codes " enum " ∷ word ∷ []
-marked_words None (Some name) n = codes " ulong " ∷ decimal n ∷ codes " " ∷ name ∷ []
-marked_words None None n = codes " ulong " ∷ decimal n ∷ []
+abbrev pub marked_words : (word name : Option (List ℕ)) (number : ℕ) → List (List ℕ)
+marked_words (Some word) name number = codes " enum " ∷ word ∷ []
+marked_words None (Some name) number = codes " ulong " ∷ decimal number ∷ codes " " ∷ name ∷ []
+marked_words None None number = codes " ulong " ∷ decimal number ∷ []
 
 -- the word of a piece of counted octets
-abbrev pub octets_word : OctetKind → List ℕ
+abbrev pub octets_word : (kind : OctetKind) → List ℕ
 octets_word (Raw bound) = codes " octets @"
 octets_word WideText = codes " wstring @"
 octets_word WideChar = codes " wchar @"
@@ -65,15 +65,15 @@ value_words (Ordered order) = codes " order " ∷ order_word order ∷ []
 value_words value = []
 
 -- the line of a value at a path, in the message with this number
-abbrev pub value_text : ℕ → List ℕ → Value → List ℕ
+abbrev pub value_text : (message : ℕ) (path : List ℕ) (value : Value) → List ℕ
 value_text message path value =
     joined (codes "m" ∷ decimal message ∷ codes " " ∷ path ∷ (value_words value ++ codes "\n" ∷ []))
 
 -- the line of a value, in the message with this number and below a root
-abbrev pub line_text : ℕ → Root → ValueAt → List ℕ
+abbrev pub line_text : (message : ℕ) (root : Root) (line : ValueAt) → List ℕ
 line_text message root l = value_text message (path_text root l.path) l.value
 
 -- the text of lines, one after another
-unfoldable pub lines_text : ℕ → Root → List ValueAt → List ℕ
+unfoldable pub lines_text : (message : ℕ) (root : Root) (lines : List ValueAt) → List ℕ
 lines_text message root [] = []
 lines_text message root (l ∷ ls) = line_text message root l ++ lines_text message root ls

@@ -45,7 +45,7 @@ use Rattle.giop_decode.specs.declared.notes.Notes.{Notes}
 use Rattle.giop_decode.specs.declared.notes.Buffer.{Buffer}
 use Rattle.giop_decode.specs.declared.notes.Buffer.TheVariants as buffers
 use Rattle.giop_decode.specs.declared.stored.TheConstants.{FRAME_SIZE}
-use Rattle.giop_decode.specs.Transitions.{leaf_type, is_inside}
+use Rattle.giop_decode.specs.Transitions.{leaf_type, within_of}
 use Rattle.giop_octets.specs.Fields.{four, eight, optional, held}
 use Rattle.giop_print.specs.declared.path.Root.{Root}
 use Rattle.giop_print.specs.declared.path.Root.TheVariants as roots
@@ -55,95 +55,96 @@ use Rattle.giop_sig.specs.Table.{type_id}
 
 -- ---- the octets
 
-abbrev pub order_octet : Order → ℕ
-order_octet orders.Big = 0
-order_octet orders.Little = 1
+abbrev pub saved_order : (order : Order) → ℕ
+saved_order orders.Big = 0
+saved_order orders.Little = 1
 
-abbrev pub narrow_octet : Bool → ℕ
-narrow_octet true = 1
-narrow_octet false = 0
+abbrev pub saved_forbids_wide : (forbids_wide : Bool) → ℕ
+saved_forbids_wide true = 1
+saved_forbids_wide false = 0
 
-abbrev pub root_octet : Root → ℕ
-root_octet roots.Header = 0
-root_octet roots.Exception = 1
-root_octet roots.Body = 2
+abbrev pub saved_root : (root : Root) → ℕ
+saved_root roots.Header = 0
+saved_root roots.Exception = 1
+saved_root roots.Body = 2
 
-abbrev pub leaf_octets : Innermost → List ℕ
-leaf_octets (innermost.Number of) = 0 ∷ four of.0 ++ four 0 ++ four 0
-leaf_octets (innermost.Content of total offset) = 1 ∷ four of.0 ++ four total ++ four offset
-leaf_octets (innermost.Opening of count) = 2 ∷ four of.0 ++ four count ++ four 0
+abbrev pub saved_leaf : (leaf : Innermost) → List ℕ
+saved_leaf (innermost.Number of) = 0 ∷ four of.0 ++ four 0 ++ four 0
+saved_leaf (innermost.Content of total offset) = 1 ∷ four of.0 ++ four total ++ four offset
+saved_leaf (innermost.Opening of count) = 2 ∷ four of.0 ++ four count ++ four 0
 
-abbrev pub buffer_octet : Buffer → ℕ
-buffer_octet buffers.Begun = 0
-buffer_octet buffers.Whole = 1
-buffer_octet buffers.TooLong = 2
-buffer_octet buffers.Key = 3
-buffer_octet buffers.LongKey = 4
+abbrev pub saved_buffer : (buffer : Buffer) → ℕ
+saved_buffer buffers.Begun = 0
+saved_buffer buffers.Whole = 1
+saved_buffer buffers.TooLong = 2
+saved_buffer buffers.Key = 3
+saved_buffer buffers.LongKey = 4
 
 -- nothing, the number of an enum, or that of an interface
-abbrev pub last_octets : Last → List ℕ
-last_octets lasts.Nothing = 0 ∷ four 0
-last_octets (lasts.Status n) = 1 ∷ four n
-last_octets (lasts.Interface i) = 2 ∷ four i.0
+abbrev pub saved_last : (last : Last) → List ℕ
+saved_last lasts.Nothing = 0 ∷ four 0
+saved_last (lasts.Status n) = 1 ∷ four n
+saved_last (lasts.Interface i) = 2 ∷ four i.0
 
 -- what is kept of a name: nothing if the buffer is too short
-abbrev pub kept_name : Buffer → List ℕ → List ℕ
-kept_name buffers.TooLong name = []
-kept_name buffers.Begun name = name
-kept_name buffers.Whole name = name
-kept_name buffers.Key name = name
-kept_name buffers.LongKey name = []
+abbrev pub saved_name : (buffer : Buffer) (name : List ℕ) → List ℕ
+saved_name buffers.TooLong name = []
+saved_name buffers.Begun name = name
+saved_name buffers.Whole name = name
+saved_name buffers.Key name = name
+saved_name buffers.LongKey name = []
 
-abbrev pub name_octets : Notes → List ℕ
-name_octets m = held 128 (kept_name m.buffer m.name.items)
+abbrev pub saved_name_octets : (notes : Notes) → List ℕ
+saved_name_octets m = held 128 (saved_name m.buffer m.name.items)
 
-abbrev pub expects_octet : Option Bool → ℕ
-expects_octet None = 0
-expects_octet (Some false) = 1
-expects_octet (Some true) = 2
+abbrev pub saved_expects_reply : (expects : Option Bool) → ℕ
+saved_expects_reply None = 0
+saved_expects_reply (Some false) = 1
+saved_expects_reply (Some true) = 2
 
-abbrev pub notes_octets : Notes → List ℕ
-notes_octets m =
-    optional m.request_id ++ last_octets m.last
-    ++ buffer_octet m.buffer ∷ name_octets m ++ expects_octet m.expects_reply ∷ []
+abbrev pub saved_notes : (notes : Notes) → List ℕ
+saved_notes m =
+    optional m.request_id ++ saved_last m.last
+    ++ saved_buffer m.buffer ∷ saved_name_octets m ++ saved_expects_reply m.expects_reply ∷ []
 
 -- the octets of a decoder with this innermost part
-unfoldable pub fixed_octets : Decoder → Innermost → List ℕ
-fixed_octets d leaf =
-    order_octet d.order ∷ root_octet d.head.root ∷ eight d.head.message ++ d.at ∷ leaf_octets leaf
-    ++ held 8 d.carry ++ held 32 d.piece.items ++ notes_octets d.notes ++ narrow_octet d.narrow ∷ []
+unfoldable pub saved_fixed : (d : Decoder) (leaf : Innermost) → List ℕ
+saved_fixed d leaf =
+    saved_order d.order ∷ saved_root d.head.root ∷ eight d.head.message ++ d.at ∷ saved_leaf leaf
+    ++ held 8 d.carry ++ held 32 d.piece.items ++ saved_notes d.notes
+    ++ saved_forbids_wide d.forbids_wide ∷ []
 
 -- how many octets a frame has
 abbrev pub frame_size : ℕ
 frame_size = FRAME_SIZE
 
 -- the octet for the byte order of a frame: none, big or little
-abbrev pub inside_octet : Option Order → ℕ
-inside_octet None = 0
-inside_octet (Some order) = 1 + order_octet order
+abbrev pub saved_inside : (order : Option Order) → ℕ
+saved_inside None = 0
+saved_inside (Some order) = 1 + saved_order order
 
 -- the octet for what was told in a frame: none, or its stage
-abbrev pub told_octet : Option Stage → ℕ
-told_octet None = 0
-told_octet (Some stages.Untold) = 1
-told_octet (Some stages.Awaits) = 2
-told_octet (Some stages.Offers) = 3
-told_octet (Some stages.Is) = 4
-told_octet (Some stages.Empty) = 5
-told_octet (Some stages.Unknown) = 6
+abbrev pub saved_stage : (stage : Option Stage) → ℕ
+saved_stage None = 0
+saved_stage (Some stages.Untold) = 1
+saved_stage (Some stages.Awaits) = 2
+saved_stage (Some stages.Offers) = 3
+saved_stage (Some stages.Is) = 4
+saved_stage (Some stages.Empty) = 5
+saved_stage (Some stages.Unknown) = 6
 
 -- the octets of a frame, 10 of which have no use
-abbrev pub frame_octets : Frame → List ℕ
-frame_octets f =
+abbrev pub saved_frame : (frame : Frame) → List ℕ
+saved_frame f =
     four f.of.0 ++ four f.index ++ four f.count
-    ++ inside_octet f.inside ∷ told_octet f.told ∷ replicate 10 0
+    ++ saved_inside f.inside ∷ saved_stage f.told ∷ replicate 10 0
 
-abbrev pub frames_octets : List Frame → List ℕ
-frames_octets frames = flat_map frame_octets frames
+abbrev pub saved_frames : (frames : List Frame) → List ℕ
+saved_frames frames = flat_map saved_frame frames
 
 -- the frame of the innermost part
-abbrev pub own_frame : Innermost → Frame
-own_frame leaf = record {
+abbrev pub leaf_frame : (leaf : Innermost) → Frame
+leaf_frame leaf = record {
   of = type_id (leaf_type leaf);
   index = 0;
   count = 0;
@@ -153,26 +154,26 @@ own_frame leaf = record {
 
 -- ---- ranges
 
-pub record FrameHasRange (f : Frame) : Type 0 where
-  pub of : f.of.0 < 2 ^ 32
-  pub index : f.index < 2 ^ 32
-  pub count : f.count < 2 ^ 32
+pub record FrameHasRange (frame : Frame) : Type 0 where
+  pub of : frame.of.0 < 2 ^ 32
+  pub index : frame.index < 2 ^ 32
+  pub count : frame.count < 2 ^ 32
 
-abbrev pub LeafHasRange : Innermost → Type 0
+abbrev pub LeafHasRange : (leaf : Innermost) → Type 0
 LeafHasRange (innermost.Number of) = of.0 < 2 ^ 32
 LeafHasRange (innermost.Content of total offset) =
     (of.0 < 2 ^ 32) × (total < 2 ^ 32) × (offset < 2 ^ 32)
 LeafHasRange (innermost.Opening of count) = (of.0 < 2 ^ 32) × (count < 2 ^ 32)
 
-abbrev pub LastHasRange : Last → Type 0
+abbrev pub LastHasRange : (last : Last) → Type 0
 LastHasRange lasts.Nothing = Unit {0}
 LastHasRange (lasts.Status n) = n < 2 ^ 32
 LastHasRange (lasts.Interface i) = i.0 < 2 ^ 32
 
-pub record NotesHaveRange (m : Notes) : Type 0 where
-  pub request_id : IfSome m.request_id (λ n. n < 2 ^ 32)
-  pub last : LastHasRange m.last
-  pub name : length m.name.items ≤ 128
+pub record NotesHaveRange (notes : Notes) : Type 0 where
+  pub request_id : IfSome notes.request_id (λ n. n < 2 ^ 32)
+  pub last : LastHasRange notes.last
+  pub name : length notes.name.items ≤ 128
 
 -- each of the decoder's own fields has room
 pub record HasRange (d : Decoder) : Type 0 where
@@ -187,30 +188,30 @@ pub record HasRange (d : Decoder) : Type 0 where
 pub record Stored (d : Decoder) (fixed frames : List ℕ) : Type 0 where
   pub leaf : Innermost
   pub goes_on : d.leaf ≡ Some leaf
-  pub fixed_are : fixed ≡ fixed_octets d leaf
-  pub frames_are : frames ≡ frames_octets (d.outer.items ++ own_frame leaf ∷ [])
+  pub fixed_are : fixed ≡ saved_fixed d leaf
+  pub frames_are : frames ≡ saved_frames (d.outer.items ++ leaf_frame leaf ∷ [])
   pub range : HasRange d
   pub leaf_range : LeafHasRange leaf
   pub outer_range : AllByRecursion FrameHasRange d.outer.items
   pub few : length d.outer.items < 24
 
 -- the notes n are what a checkpoint keeps of the notes m
-pub record IsKept (m n : Notes) : Type 0 where
-  pub request_id : n.request_id ≡ m.request_id
-  pub last : n.last ≡ m.last
-  pub expects_reply : n.expects_reply ≡ m.expects_reply
-  pub buffer : n.buffer ≡ m.buffer
-  pub name : n.name.items ≡ kept_name m.buffer m.name.items
+pub record AreSavedNotes (notes saved : Notes) : Type 0 where
+  pub request_id : saved.request_id ≡ notes.request_id
+  pub last : saved.last ≡ notes.last
+  pub expects_reply : saved.expects_reply ≡ notes.expects_reply
+  pub buffer : saved.buffer ≡ notes.buffer
+  pub name : saved.name.items ≡ saved_name notes.buffer notes.name.items
 
 -- the decoder e is what a checkpoint keeps of the decoder d
-pub record IsRestored (d e : Decoder) : Type 0 where
-  pub order : e.order ≡ d.order
-  pub head : e.head ≡ d.head
-  pub at : e.at ≡ d.at
-  pub narrow : e.narrow ≡ d.narrow
-  pub leaf : e.leaf ≡ d.leaf
-  pub outer : e.outer.items ≡ d.outer.items
-  pub inside : e.inside ≡ is_inside e.outer.items
-  pub carry : e.carry ≡ d.carry
-  pub piece : e.piece.items ≡ d.piece.items
-  pub notes : IsKept d.notes e.notes
+pub record IsRestored (stored restored : Decoder) : Type 0 where
+  pub order : restored.order ≡ stored.order
+  pub head : restored.head ≡ stored.head
+  pub at : restored.at ≡ stored.at
+  pub forbids_wide : restored.forbids_wide ≡ stored.forbids_wide
+  pub leaf : restored.leaf ≡ stored.leaf
+  pub outer : restored.outer.items ≡ stored.outer.items
+  pub inside : restored.inside ≡ within_of restored.outer.items
+  pub carry : restored.carry ≡ stored.carry
+  pub piece : restored.piece.items ≡ stored.piece.items
+  pub notes : AreSavedNotes stored.notes restored.notes

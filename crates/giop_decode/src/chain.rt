@@ -1,18 +1,18 @@
 //! Whether the parts of a decoder that is restored from octets fit a catalogue.
 
 ghost use Rattle.std.specs.Prelude.{◌≡◌, ◌↔◌, ℕ, suc, IsTrue, IfSome, None, ◌+◌, ◌-◌, ◌<◌, ◌≤◌, [], length};
-ghost use Rattle.giop_decode.specs.SeenState.{AreOfRoot, HoldsNoKey, interface_of};
-ghost use Rattle.giop_decode.specs.FrameChain.{HasFrame, HasFrameAs, HasPart, LeafFits, Chained, Chains, root_of};
+ghost use Rattle.giop_decode.specs.SeenState.{NotesFitRoot, HoldsNoKey, interface_of};
+ghost use Rattle.giop_decode.specs.FrameChain.{HasFrame, HasFrameAs, HasPart, LeafFits, FramesChain, FitsCatalogue, root_of};
 ghost use Rattle.giop_decode.specs.Fits.{CanFollow, HasLeadingNumber, IsEncapsulation, IsLed};
-ghost use Rattle.giop_decode.specs.NameBuffer.{FitsName, IsNotedOf, string_offset};
-ghost use Rattle.giop_decode.specs.Transitions.{is_inside, leaf_type, part_index};
-ghost use Rattle.giop_sig.specs.Hearings.{hearing_in};
+ghost use Rattle.giop_decode.specs.NameBuffer.{NameBufferFits, IsNotedCount, string_offset};
+ghost use Rattle.giop_decode.specs.Transitions.{within_of, leaf_type, part_index};
+ghost use Rattle.giop_sig.specs.Hearings.{inference_in};
 ghost use Rattle.giop_sig.specs.Trees.{tree_at};
 ghost use Rattle.giop_sig.specs.Types.{shape_in};
 
 use crate::decoder::Decoder;
-use crate::frame::{Frame, Within, is_empty, is_inside, whole};
-use crate::leading_numbers::width;
+use crate::frame::{Frame, Within, is_empty_struct, starts_with_part, within_of};
+use crate::leading_numbers::leading_width;
 use crate::leaf::Leaf;
 use crate::notes::{Buffer, Last, Notes, is_header};
 use giop_cdr::Carry;
@@ -21,22 +21,22 @@ use giop_sig::{SeenCatalogue, Shape, TypeId};
 
 impl Decoder {
     /// Whether the decoder goes on, and fits a catalogue.
-    pub(crate) fn chains(&self, catalogue: &SeenCatalogue<'_>) -> bool
-        ensures { IsTrue result ↔ Chains catalogue.now self.now }
+    pub(crate) fn fits_catalogue(&self, catalogue: &SeenCatalogue<'_>) -> bool
+        ensures { IsTrue result ↔ FitsCatalogue catalogue.now self.now }
     {
         let Some(leaf) = self.leaf else {
             return false;
         };
         let root = root_of(self.outer.as_slice(), leaf);
         self.at < 8
-            && are_of_root(catalogue, self.head.root(), &self.notes)
+            && notes_fit_root(catalogue, self.head.root(), &self.notes)
             && catalogue.has(leaf.of())
             && catalogue.has(root)
-            && !is_empty(catalogue, root)
-            && self.knows_inside()
+            && !is_empty_struct(catalogue, root)
+            && self.within_is_right()
             && self.outer.len() < 24
             && self.parts_fit(catalogue, root, leaf)
-            && name_fits(
+            && name_buffer_fits(
                 self.head.root(),
                 string_offset(catalogue, leaf),
                 &self.notes,
@@ -44,10 +44,10 @@ impl Decoder {
     }
 
     /// Whether `inside` is what the parts ask of each octet.
-    fn knows_inside(&self) -> bool
-        ensures { IsTrue result ↔ self.now.inside ≡ is_inside self.now.outer.items }
+    fn within_is_right(&self) -> bool
+        ensures { IsTrue result ↔ self.now.inside ≡ within_of self.now.outer.items }
     {
-        self.inside == is_inside(Within::Telling, self.outer.as_slice())
+        self.inside == within_of(Within::Telling, self.outer.as_slice())
     }
 
     /// Whether each part is the one that the part before it is at, from this type to the innermost
@@ -56,11 +56,11 @@ impl Decoder {
         requires root { root.0 < length catalogue.now.types }
         requires leaf { leaf_type leaf < length catalogue.now.types }
         requires few { length self.now.outer.items < 24 }
-        ensures { IsTrue result ↔ Chained catalogue.now 24 root.0 self.now.outer.items leaf
+        ensures { IsTrue result ↔ FramesChain catalogue.now 24 root.0 self.now.outer.items leaf
             × LeafFits catalogue.now (24 - length self.now.outer.items) leaf self.now.carry
             self.now.piece.items }
     {
-        follow(catalogue, 24, root, self.outer.as_slice(), leaf)
+        frames_chain(catalogue, 24, root, self.outer.as_slice(), leaf)
             && leaf_fits(catalogue, leaf, &self.carry, self.piece.as_slice())
     }
 }
@@ -77,20 +77,26 @@ fn root_of(frames: &[Frame], leaf: Leaf) -> TypeId
 
 /// Whether each frame is for the part that the one before it is at, from this type to the innermost
 /// part. The type has this room.
-fn follow(catalogue: &SeenCatalogue<'_>, room: u8, of: TypeId, frames: &[Frame], leaf: Leaf) -> bool
+fn frames_chain(
+    catalogue: &SeenCatalogue<'_>,
+    room: u8,
+    of: TypeId,
+    frames: &[Frame],
+    leaf: Leaf,
+) -> bool
     requires known { of.0 < length catalogue.now.types }
     requires room { length frames.now < room }
-    ensures { IsTrue result ↔ Chained catalogue.now room of.0 frames.now leaf }
+    ensures { IsTrue result ↔ FramesChain catalogue.now room of.0 frames.now leaf }
 {
     match frames {
         [] => leaf.of() == of,
         [frame, rest @ ..] => {
-            let left = room - 1;
-            is_frame_of(catalogue, left, of, *frame)
-                && follow(
+            let parts_room = room - 1;
+            is_frame_of(catalogue, parts_room, of, *frame)
+                && frames_chain(
                     catalogue,
-                    left,
-                    catalogue.part_in(of, part_index(*frame), left),
+                    parts_room,
+                    catalogue.part_in(of, part_index(*frame), parts_room),
                     rest,
                     leaf,
                 )
@@ -98,44 +104,49 @@ fn follow(catalogue: &SeenCatalogue<'_>, room: u8, of: TypeId, frames: &[Frame],
     }
 }
 
-/// Whether a frame is for this type and can be. `left` is the room of the type's parts.
-fn is_frame_of(catalogue: &SeenCatalogue<'_>, left: u8, of: TypeId, frame: Frame) -> bool
+/// Whether a frame is for this type and can be. `parts_room` is the room of the type's parts.
+fn is_frame_of(catalogue: &SeenCatalogue<'_>, parts_room: u8, of: TypeId, frame: Frame) -> bool
     requires { of.0 < length catalogue.now.types }
     ensures { IsTrue result ↔ (frame.of.0 ≡ of.0)
-        × HasFrameAs frame.told frame.inside (tree_at catalogue.now (suc left) of.0) frame.index
-        frame.count }
+        × HasFrameAs frame.told frame.inside (tree_at catalogue.now (suc parts_room) of.0)
+        frame.index frame.count }
 {
-    frame.of == of && has_frame(catalogue, left, of, frame)
+    frame.of == of && can_be_frame(catalogue, parts_room, of, frame)
 }
 
 /// Whether a frame can be for a type: for one of its parts, for an encapsulation some of whose
-/// octets are to come, or for a first part that tells what comes after it. `left` is the room of
-/// the type's parts.
-fn has_frame(catalogue: &SeenCatalogue<'_>, left: u8, of: TypeId, frame: Frame) -> bool
+/// octets are to come, or for a first part that tells what comes after it. `parts_room` is the room
+/// of the type's parts.
+fn can_be_frame(catalogue: &SeenCatalogue<'_>, parts_room: u8, of: TypeId, frame: Frame) -> bool
     requires { of.0 < length catalogue.now.types }
     ensures { IsTrue result
-        ↔ HasFrameAs frame.told frame.inside (tree_at catalogue.now (suc left) of.0) frame.index
-        frame.count }
+        ↔ HasFrameAs frame.told frame.inside (tree_at catalogue.now (suc parts_room) of.0)
+        frame.index frame.count }
 {
     match frame.told {
         Some(_) => { is_led(catalogue, of) && frame.inside.is_none() && frame.count == 0 }
-        None => has_own_frame(catalogue, left, of, frame),
+        None => can_be_untold_frame(catalogue, parts_room, of, frame),
     }
 }
 
 /// Whether a frame that has told nothing can be for a type: for one of its parts, or for an
-/// encapsulation some of whose octets are to come. `left` is the room of the type's parts.
-fn has_own_frame(catalogue: &SeenCatalogue<'_>, left: u8, of: TypeId, frame: Frame) -> bool
+/// encapsulation some of whose octets are to come. `parts_room` is the room of the type's parts.
+fn can_be_untold_frame(
+    catalogue: &SeenCatalogue<'_>,
+    parts_room: u8,
+    of: TypeId,
+    frame: Frame,
+) -> bool
     requires { of.0 < length catalogue.now.types }
     ensures { IsTrue result
-        ↔ HasFrame frame.inside (tree_at catalogue.now (suc left) of.0) frame.index
+        ↔ HasFrame frame.inside (tree_at catalogue.now (suc parts_room) of.0) frame.index
         frame.count }
 {
     match frame.inside {
         Some(_) => {
             is_encapsulation(catalogue, of) && 0 < frame.index && frame.index < frame.count
         }
-        None => has_part(catalogue, left, of, frame.index, frame.count),
+        None => has_part(catalogue, parts_room, of, frame.index, frame.count),
     }
 }
 
@@ -198,28 +209,34 @@ fn is_encapsulation(catalogue: &SeenCatalogue<'_>, of: TypeId) -> bool
     }
 }
 
-/// Whether a type can come at this place after the part that tells it, if it has room `left`. None
-/// can come at the place of that part.
+/// Whether a type can come after the part that tells it, with this index, if it has room
+/// `parts_room`. None can come with index 0, which is that of the part itself.
 #[tactic(auto, using(crate::proofs::StoredChain::can_start, crate::proofs::StoredChain::can_follows, crate::proofs::StoredChain::follows_can))]
-fn can_follow(catalogue: &SeenCatalogue<'_>, left: u8, of: TypeId, place: u32) -> bool
-    requires { shape_in (tree_at catalogue.now (suc left) of.0) ≡ Shape.Led }
+fn can_follow(catalogue: &SeenCatalogue<'_>, parts_room: u8, of: TypeId, index: u32) -> bool
+    requires { shape_in (tree_at catalogue.now (suc parts_room) of.0) ≡ Shape.Led }
     ensures { IsTrue result
-        ↔ CanFollow (hearing_in (tree_at catalogue.now (suc left) of.0)) place }
+        ↔ CanFollow (inference_in (tree_at catalogue.now (suc parts_room) of.0)) index }
 {
-    0 < place && catalogue.follows(TypeId(place - 1), left)
+    0 < index && catalogue.can_be_value(TypeId(index - 1), parts_room)
 }
 
-/// Whether a type has this part, which has room `left`, and this many parts.
+/// Whether a type has this part, which has room `parts_room`, and this many parts.
 #[tactic(auto, using(crate::proofs::StoredChain::part_led, crate::proofs::StoredChain::led_part, crate::proofs::StoredChain::part_recursive, crate::proofs::StoredChain::recursive_part))]
-fn has_part(catalogue: &SeenCatalogue<'_>, left: u8, of: TypeId, index: u32, count: u32) -> bool
+fn has_part(
+    catalogue: &SeenCatalogue<'_>,
+    parts_room: u8,
+    of: TypeId,
+    index: u32,
+    count: u32,
+) -> bool
     requires { of.0 < length catalogue.now.types }
-    ensures { IsTrue result ↔ HasPart (tree_at catalogue.now (suc left) of.0) index count }
+    ensures { IsTrue result ↔ HasPart (tree_at catalogue.now (suc parts_room) of.0) index count }
 {
     match catalogue.shape(of) {
         Shape::Members(members) => count == members && index < count,
         Shape::Array(elements) => count == elements && index < count,
         Shape::Sequence(_) => index < count,
-        Shape::Recursive(_) => index < count && catalogue.elements_fit(of, left),
+        Shape::Recursive(_) => index < count && catalogue.elements_fit(of, parts_room),
         Shape::Union(cases) => index < cases && count == 0,
         Shape::Tagged => index < 3 && count == 0,
         Shape::Encapsulation => false,
@@ -230,7 +247,7 @@ fn has_part(catalogue: &SeenCatalogue<'_>, left: u8, of: TypeId, index: u32, cou
         Shape::WideText => false,
         Shape::WideChar => false,
         Shape::Marked(_) => false,
-        Shape::Led => count == 0 && can_follow(catalogue, left, of, index),
+        Shape::Led => count == 0 && can_follow(catalogue, parts_room, of, index),
     }
 }
 
@@ -244,7 +261,7 @@ fn leaf_fits(catalogue: &SeenCatalogue<'_>, leaf: Leaf, carry: &Carry, piece: &[
         Leaf::Number(of) => {
             piece.is_empty()
                 && has_leading_number(catalogue, of)
-                && carry.len() < usize::from(width(catalogue, of))
+                && carry.len() < usize::from(leading_width(catalogue, of))
         }
         Leaf::Opening { of, count } => {
             carry.is_empty() && piece.is_empty() && 0 < count && is_encapsulation(catalogue, of)
@@ -268,7 +285,7 @@ fn has_leading_number(catalogue: &SeenCatalogue<'_>, of: TypeId) -> bool
     requires { of.0 < length catalogue.now.types }
     ensures { (n : ℕ) → IsTrue result ↔ HasLeadingNumber (tree_at catalogue.now n of.0) }
 {
-    whole(catalogue, of).is_none()
+    starts_with_part(catalogue, of).is_none()
 }
 
 /// Whether this many octets can be held of a piece that begins at this offset of the content.
@@ -292,8 +309,8 @@ fn content_fits(total: u32, offset: u32, held: usize, tail: usize) -> bool
 /// Whether notes can be those of a value with this root. Only a header has a request id and an
 /// object key. The catalogue has the interface of the key, and a key is held only if the catalogue
 /// has KEYs.
-fn are_of_root(catalogue: &SeenCatalogue<'_>, root: Root, notes: &Notes) -> bool
-    ensures { IsTrue result ↔ AreOfRoot catalogue.now root notes.now }
+fn notes_fit_root(catalogue: &SeenCatalogue<'_>, root: Root, notes: &Notes) -> bool
+    ensures { IsTrue result ↔ NotesFitRoot catalogue.now root notes.now }
 {
     if !is_header(root) {
         return notes.request_id.is_none()
@@ -357,26 +374,28 @@ fn string_offset(catalogue: &SeenCatalogue<'_>, leaf: Leaf) -> Option<u32>
 
 /// Whether the name buffer can be like this if the innermost part is in no string, or in one whose
 /// unfinished piece begins at this offset.
-fn name_fits(root: Root, offset: Option<u32>, notes: &Notes) -> bool
-    ensures { IsTrue result ↔ FitsName root offset notes.now.buffer notes.now.name.items }
+fn name_buffer_fits(root: Root, offset: Option<u32>, notes: &Notes) -> bool
+    ensures { IsTrue result ↔ NameBufferFits root offset notes.now.buffer notes.now.name.items }
 {
     match (offset, notes.buffer) {
         (None, Buffer::Begun) => notes.name.is_empty(),
         (None, Buffer::Whole) => true,
         (None, Buffer::TooLong) => false,
-        (Some(offset), Buffer::Begun) => is_noted_of(root, offset, notes.name.len()),
+        (Some(offset), Buffer::Begun) => is_noted_count(root, offset, notes.name.len()),
         (Some(_), Buffer::Whole) => false,
         (Some(offset), Buffer::TooLong) => 128 < offset && notes.name.is_empty(),
         (None, Buffer::Key) => notes.name.len() <= 128,
         (None, Buffer::LongKey) => notes.name.is_empty(),
-        (Some(offset), Buffer::Key) => notes.name.len() <= 128 && is_noted_of(root, offset, 0),
-        (Some(offset), Buffer::LongKey) => { notes.name.is_empty() && is_noted_of(root, offset, 0) }
+        (Some(offset), Buffer::Key) => notes.name.len() <= 128 && is_noted_count(root, offset, 0),
+        (Some(offset), Buffer::LongKey) => {
+            notes.name.is_empty() && is_noted_count(root, offset, 0)
+        }
     }
 }
 
 /// Whether this many octets can be noted of a string whose unfinished piece begins at this offset.
-fn is_noted_of(root: Root, offset: u32, count: usize) -> bool
-    ensures { IsTrue result ↔ IsNotedOf root offset count }
+fn is_noted_count(root: Root, offset: u32, count: usize) -> bool
+    ensures { IsTrue result ↔ IsNotedCount root offset count }
 {
     match root {
         Root::Header => count == offset as usize,

@@ -2,15 +2,15 @@
 //! 32 octets (docs/FORMATS.md).
 
 ghost use Rattle.std.specs.Prelude.{◌≡◌};
-ghost use Rattle.giop_decode.specs.Transitions.{still_held};
+ghost use Rattle.giop_decode.specs.Transitions.{held_after_output};
 
 use crate::leaf::Output;
 use arrayvec::ArrayVec;
 
 /// Empties the piece that is held, if its line was written.
 #[inline(always)]
-pub(crate) fn let_go(output: Output, piece: &mut ArrayVec<u8, 32>)
-    ensures { piece.new.items ≡ still_held output piece.old.items }
+pub(crate) fn drop_written_piece(output: Output, piece: &mut ArrayVec<u8, 32>)
+    ensures { piece.new.items ≡ held_after_output output piece.old.items }
 {
     match output {
         Output::Piece { .. } => piece.clear(),

@@ -5,7 +5,7 @@ ghost use Rattle.giop_decode.specs.Spelling.{segment_text, path_text};
 ghost use Rattle.giop_decode.specs.Reading.{led_name};
 ghost use Rattle.giop_decode.specs.ReadingSteps.{segment_in, path_in};
 ghost use Rattle.giop_decode.specs.Transitions.{open_part, open_parts, IsKnown, AreKnown, switch_segment};
-ghost use Rattle.giop_decode.specs.Segments.{frame_text, frames_text, end_text, led_place, IsSwitch};
+ghost use Rattle.giop_decode.specs.Segments.{frame_text, frames_text, discriminator_text, led_part_index, IsUnionOrNone};
 ghost use Rattle.giop_print.specs.Line.{line_text, line_room, Spells};
 ghost use Rattle.giop_print.specs.Paths.{name_segment, index_segment};
 ghost use Rattle.giop_sig.specs.Types.{shape_in, IsUnion};
@@ -28,7 +28,7 @@ pub(crate) struct CurrentPath<'a> {
 
 impl<'a> Model for CurrentPath<'a> {
     ghost use Rattle.std.specs.Prelude.{◌<◌, length};
-    ghost use Rattle.giop_decode.specs.Segments.{PathView, IsSwitch};
+    ghost use Rattle.giop_decode.specs.Segments.{PathView, IsUnionOrNone};
     ghost use Rattle.giop_decode.specs.Transitions.{AreKnown};
 
     ghost Value = { PathView };
@@ -41,7 +41,7 @@ impl<'a> Model for CurrentPath<'a> {
     } };
 
     ghost invariant = { λ here. AreKnown here.catalogue.now here.outer.now
-        × (length here.outer.now < 24) × IsSwitch here.catalogue.now here.switch };
+        × (length here.outer.now < 24) × IsUnionOrNone here.catalogue.now here.switch };
 }
 
 impl Position for CurrentPath<'_> {
@@ -56,7 +56,7 @@ impl Position for CurrentPath<'_> {
         if line.room() < SEGMENT {
             return false;
         }
-        spell_end(self.catalogue, self.switch, line);
+        spell_switch_if_any(self.catalogue, self.switch, line);
         if !spell_segments(self.catalogue, self.outer, line) {
             return false;
         }
@@ -72,7 +72,7 @@ impl Position for CurrentPath<'_> {
     }
 
     fn path(&self) -> Path {
-        let mut path = go_to(self.catalogue, self.head.root(), self.outer);
+        let mut path = path_to_innermost(self.catalogue, self.head.root(), self.outer);
         let Some(of) = self.switch else {
             return path;
         };
@@ -137,13 +137,13 @@ pub(crate) fn spell_segment(catalogue: &SeenCatalogue<'_>, frame: Frame, line: &
         Shape::Sequence(_) => spell_index(line, frame.index),
         Shape::Recursive(_) => spell_index(line, frame.index),
         Shape::Array(_) => spell_index(line, frame.index),
-        Shape::Led => spell_led(line, led_name(frame)),
+        Shape::Led => spell_short_name(line, led_name(frame)),
         _ => unreachable!(),
     }
 }
 
 /// Spells the segment of an any's type or value.
-fn spell_led(line: &mut Line, name: &[u8])
+fn spell_short_name(line: &mut Line, name: &[u8])
     requires short { length name.now ≤ 5 }
     requires room { 65 ≤ line_room line.old }
     ensures text { line_text line.new ≡ name_segment name.now ++ line_text line.old }
@@ -157,7 +157,7 @@ fn spell_led(line: &mut Line, name: &[u8])
 /// The name of the part of an any that is being read: its type, as long as that tells what comes
 /// after it, or its value.
 pub(crate) fn led_name(frame: Frame) -> &'static [u8]
-    ensures name { result.now ≡ led_name (led_place frame.told frame.index) }
+    ensures name { result.now ≡ led_name (led_part_index frame.told frame.index) }
     ensures short { length result.now ≤ 5 }
 {
     match (frame.told, frame.index) {
@@ -168,11 +168,12 @@ pub(crate) fn led_name(frame: Frame) -> &'static [u8]
 }
 
 /// Spells the segment of a discriminator, if one is meant.
-fn spell_end(catalogue: &SeenCatalogue<'_>, switch: Option<TypeId>, line: &mut Line)
-    requires union { IsSwitch catalogue.now switch }
+fn spell_switch_if_any(catalogue: &SeenCatalogue<'_>, switch: Option<TypeId>, line: &mut Line)
+    requires union { IsUnionOrNone catalogue.now switch }
     requires room { 65 ≤ line_room line.old }
-    ensures text { line_text line.new ≡ end_text catalogue.now switch ++ line_text line.old }
-    ensures room { line_room line.new + length (end_text catalogue.now switch)
+    ensures text { line_text line.new ≡ discriminator_text catalogue.now switch
+        ++ line_text line.old }
+    ensures room { line_room line.new + length (discriminator_text catalogue.now switch)
         ≡ line_room line.old }
 {
     match switch {
@@ -281,7 +282,7 @@ fn push_switch(catalogue: &SeenCatalogue<'_>, of: TypeId, path: &mut Path)
 }
 
 /// The path of the innermost part.
-fn go_to(catalogue: &SeenCatalogue<'_>, root: Root, outer: &[Frame]) -> Path
+fn path_to_innermost(catalogue: &SeenCatalogue<'_>, root: Root, outer: &[Frame]) -> Path
     requires known { AreKnown catalogue.now outer.now }
     requires room { length outer.now ≤ 24 }
     ensures text { (here : ℕ) →

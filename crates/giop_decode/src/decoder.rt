@@ -4,29 +4,30 @@ ghost use Rattle.std.specs.Prelude.{◌≡◌, ℕ, ◌+◌, ◌-◌, ◌%◌, �
 ghost use Rattle.std.specs.Option.{option_map};
 ghost use Rattle.giop_decode.specs.declared.decoder.Decoder.{Decoder as Before};
 ghost use Rattle.giop_decode.specs.declared.leaf.Leaf.{Leaf as Innermost};
-ghost use Rattle.giop_decode.specs.ReadResult.{Coding, IsEvenFrom, PathSegment, ValueAt, Read, lines_of, seamed, with_front};
+ghost use Rattle.giop_decode.specs.ReadResult.{Coding, IsEvenFrom, PathSegment, ValueAt, Read, lines_of, fragment_aligned_from, with_front};
 ghost use Rattle.giop_decode.specs.Spelling.{lines_text};
 ghost use Rattle.giop_print.specs.Output.{Writes};
 ghost use Rattle.giop_print.specs.declared.path.Root.{Root as PathRoot};
-ghost use Rattle.giop_decode.specs.Reading.{none_left, rooted};
-ghost use Rattle.giop_decode.specs.ReadingSteps.{around};
-ghost use Rattle.giop_decode.specs.Fits.{OpenFrom};
-ghost use Rattle.giop_decode.specs.Transitions.{open_parts, AreKnown, IsSettled, LetsGo, Link, settled_by, TransitionFits, HasOutput, after_transition, still_held, leaf_type, IsClean, StandAt, is_inside, tree_in};
+ghost use Rattle.giop_decode.specs.Reading.{none_left, done_if_untyped};
+ghost use Rattle.giop_decode.specs.ReadingSteps.{resume_outer};
+ghost use Rattle.giop_decode.specs.Fits.{OpenPartsFit};
+ghost use Rattle.giop_decode.specs.Transitions.{open_parts, AreKnown, IsRecursionResolved, HoldsNothingAfter, Link, resolve_recursion, TransitionFits, HasOutput, after_transition, held_after_output, leaf_type, HoldsOnlyItsOwn, StandAt, within_of, tree_in};
 ghost use Rattle.giop_decode.specs.Noted.{noted_of, ends_in_string, is_header_root};
 ghost use Rattle.giop_decode.specs.NameBuffer.{string_offset};
 ghost use Rattle.giop_decode.specs.NotingSteps.{transition_in_string, transition_offset};
-ghost use Rattle.giop_decode.specs.DecoderState.{Fits, IsDone, IsOfVersion, KeepsVersion, Reads, Takes, KeepsNoted, GoesOn, added_lines, whose};
+ghost use Rattle.giop_decode.specs.DecoderState.{Fits, IsDone, IsOfVersion, KeepsVersion, Reads, Takes, KeepsNoted, GoesOn, added_lines, interface_of_key};
 ghost use Rattle.giop_decode.specs.SeenState.{Fits as FitsSeen, Reads as ReadsSeen};
-ghost use Rattle.giop_decode.specs.DecoderSteps.{transition_result, decoder_step, Comes, IsNotRefused};
-ghost use Rattle.giop_decode.specs.Passes.{Gives, IsBehind, Passes};
+ghost use Rattle.giop_decode.specs.DecoderSteps.{transition_result, decoder_step, AgreesWithReading, IsNotRefused};
+ghost use Rattle.giop_decode.specs.Passes.{AreStepLines, HasCountedOctet, NotesAndAdvances};
 ghost use Rattle.giop_sig.specs.Types.{Ty, elements_fit};
 ghost use Rattle.giop_sig.specs.Fits.{IsFit, IsEmptyStruct};
 ghost use Rattle.giop_sig.specs.Table.{Table, in_version};
 ghost use Rattle.giop_sig.specs.Trees.{tree};
 
-use crate::contents::let_go;
+use crate::contents::drop_written_piece;
 use crate::frame::{
-    Frame, Within, begin, go_on, has_ended, is_empty, is_inside, stop, within_encapsulation,
+    Frame, Within, any_encapsulation_ended, descend_to_number, go_on_after_part, go_on_at_untyped,
+    is_empty_struct, within_after_encapsulation, within_of,
 };
 use crate::leaf::{Finished, Leaf, Transition};
 use crate::line::write_line;
@@ -47,7 +48,7 @@ pub struct Decoder {
     // The phase of the next octet, modulo 8.
     pub(crate) at: u8,
     // Whether anys and recursive sequences can't hold wide text.
-    pub(crate) narrow: bool,
+    pub(crate) forbids_wide: bool,
     pub(crate) outer: ArrayVec<Frame, 24>,
     // What these parts ask of each octet.
     pub(crate) inside: Within,
@@ -80,12 +81,12 @@ impl Decoder {
             Fits catalogue.now result }
         ensures version { IsOfVersion minor catalogue.now result }
     {
-        let narrow = catalogue.is_narrow(minor);
+        let forbids_wide = catalogue.is_narrow(minor);
         let mut decoder = Decoder {
             order,
             head: Head::new(message, root),
             at: 0,
-            narrow,
+            forbids_wide,
             outer: ArrayVec::new(),
             inside: Within::Nothing,
             leaf: None,
@@ -93,7 +94,7 @@ impl Decoder {
             piece: ArrayVec::new(),
             notes: Notes::new(),
         };
-        decoder.begin(&catalogue.seen(narrow), of, offset);
+        decoder.begin_value(&catalogue.seen(forbids_wide), of, offset);
         decoder
     }
 
@@ -122,14 +123,14 @@ impl Decoder {
     {
         self.order = order;
         self.head = Head::new(message, root);
-        self.narrow = catalogue.is_narrow(minor);
-        self.begin(&catalogue.seen(self.narrow), of, offset);
+        self.forbids_wide = catalogue.is_narrow(minor);
+        self.begin_value(&catalogue.seen(self.forbids_wide), of, offset);
     }
 
     /// Begins to read a value of a type. The byte order, the head and the version are set.
-    fn begin(&mut self, catalogue: &SeenCatalogue<'_>, of: TypeId, offset: u64)
+    fn begin_value(&mut self, catalogue: &SeenCatalogue<'_>, of: TypeId, offset: u64)
         requires known { of.0 < length catalogue.now.types }
-        requires version { self.old.narrow ≡ catalogue.now.narrow }
+        requires version { self.old.forbids_wide ≡ catalogue.now.forbids_wide }
         ensures reads { (coding : Coding) (at : ℕ) → coding.order ≡ self.old.order →
             IsEvenFrom coding at → coding.phase at % 8 ≡ offset % 8 →
             ReadsSeen catalogue.now (tree catalogue.now of.0) coding at
@@ -137,7 +138,7 @@ impl Decoder {
         ensures done { IsDone self.new ↔ IsEmptyStruct (tree catalogue.now of.0) }
         ensures fits { (IsEmptyStruct (tree catalogue.now of.0) → ⊥) →
             FitsSeen catalogue.now self.new }
-        ensures version { self.new.narrow ≡ self.old.narrow }
+        ensures version { self.new.forbids_wide ≡ self.old.forbids_wide }
     {
         self.at = (offset % 8) as u8;
         self.outer.clear();
@@ -146,10 +147,10 @@ impl Decoder {
         self.carry = Carry::new();
         self.piece.clear();
         self.notes.clear();
-        if is_empty(catalogue, of) {
+        if is_empty_struct(catalogue, of) {
             return;
         }
-        let first = begin(catalogue, &mut self.outer, &mut self.inside, of);
+        let first = descend_to_number(catalogue, &mut self.outer, &mut self.inside, of);
         self.leaf = Some(Leaf::Number(first));
     }
 
@@ -185,7 +186,7 @@ impl Decoder {
         ensures reads { (C : Table) (T : Ty) (coding : Coding) (at message : ℕ) (root : PathRoot)
             (s : List ℕ) →
             Reads C T coding at message root self.old s →
-            Reads C T (seamed coding (at + length s)) at message root self.new s }
+            Reads C T (fragment_aligned_from coding (at + length s)) at message root self.new s }
         ensures notes { (C : Table) (root : PathRoot) (r : Read) → KeepsNoted C root self.old r →
             KeepsNoted C root self.new r }
         ensures fits { (C : Table) → Fits C self.old → Fits C self.new }
@@ -226,7 +227,7 @@ impl Decoder {
     /// catalogue's signature file.
     pub fn interface(&self, catalogue: &Catalogue) -> Option<InterfaceId>
         ensures is { (root : PathRoot) (r : Read) → KeepsNoted catalogue.now root self.now r →
-            result ≡ whose catalogue.now (noted_of (is_header_root root) r).key }
+            result ≡ interface_of_key catalogue.now (noted_of (is_header_root root) r).key }
         ensures known { IfSome result (λ i. i.0 < length catalogue.now.interfaces.names) }
     {
         catalogue.interface_laws();
@@ -269,21 +270,22 @@ impl Decoder {
     fn advance_frames(&mut self, catalogue: &SeenCatalogue<'_>, of: TypeId, transition: Transition)
         requires known { of.0 < length catalogue.now.types }
         requires known_outer { AreKnown catalogue.now self.old.outer.items }
-        requires encloses { self.old.inside ≡ is_inside self.old.outer.items }
-        requires open { (at : ℕ) × OpenFrom 24 (open_parts catalogue.now at self.old.outer.items) }
+        requires encloses { self.old.inside ≡ within_of self.old.outer.items }
+        requires open { (at : ℕ) × OpenPartsFit 24
+            (open_parts catalogue.now at self.old.outer.items) }
         requires fit { IsFit (24 - length self.old.outer.items)
             (tree_in catalogue.now self.old.outer.items of.0) }
         requires transition_fits { TransitionFits
             (tree_in catalogue.now self.old.outer.items of.0) of.0 transition
             self.old.carry self.old.piece.items }
-        requires lets_go { LetsGo transition self.old.carry self.old.piece.items }
-        requires settled { IsSettled transition }
+        requires lets_go { HoldsNothingAfter transition self.old.carry self.old.piece.items }
+        requires settled { IsRecursionResolved transition }
         ensures known_outer { AreKnown catalogue.now self.new.outer.items }
-        ensures encloses { self.new.inside ≡ is_inside self.new.outer.items }
+        ensures encloses { self.new.inside ≡ within_of self.new.outer.items }
         ensures known { (leaf : Innermost) → IsNotRefused transition → self.new.leaf ≡ Some leaf →
             leaf_type leaf < length catalogue.now.types }
         ensures clean { (leaf : Innermost) → IsNotRefused transition → self.new.leaf ≡ Some leaf →
-            IsClean leaf self.new.carry self.new.piece.items }
+            HoldsOnlyItsOwn leaf self.new.carry self.new.piece.items }
         ensures link { (root : ℕ) (leaf : Innermost) → IsNotRefused transition →
             Link catalogue.now root self.old.outer.items of.0 → self.new.leaf ≡ Some leaf →
             Link catalogue.now root self.new.outer.items (leaf_type leaf) }
@@ -294,7 +296,7 @@ impl Decoder {
         ensures head { self.new.head ≡ self.old.head }
         ensures notes { self.new.notes ≡ self.old.notes }
         ensures at { self.new.at ≡ self.old.at }
-        ensures narrow { self.new.narrow ≡ self.old.narrow }
+        ensures forbids_wide { self.new.forbids_wide ≡ self.old.forbids_wide }
         ensures inside { (at : ℕ) (lines : List ValueAt) →
             ends_in_string
             (transition_result catalogue.now (tree_in catalogue.now self.old.outer.items of.0)
@@ -303,7 +305,8 @@ impl Decoder {
         ensures stand { (at : ℕ) → 0 < at → StandAt at self.old.outer.items →
             StandAt at self.new.outer.items }
         ensures advances { (coding : Coding) (path : List PathSegment) (at : ℕ) →
-            rooted none_left (around coding path (open_parts catalogue.now at self.old.outer.items)
+            done_if_untyped none_left (resume_outer coding path
+            (open_parts catalogue.now at self.old.outer.items)
             (after_transition (tree_in catalogue.now self.old.outer.items of.0) transition
             self.old.carry self.old.piece.items [] at))
             ≡ transition_result catalogue.now (tree_in catalogue.now self.old.outer.items of.0)
@@ -321,7 +324,7 @@ impl Decoder {
                     told: None,
                 });
                 let part = catalogue.part(of, 0);
-                self.leaf = Some(Leaf::Number(begin(
+                self.leaf = Some(Leaf::Number(descend_to_number(
                     catalogue,
                     &mut self.outer,
                     &mut self.inside,
@@ -338,7 +341,7 @@ impl Decoder {
                 });
                 let room = 24 - self.outer.len() as u8;
                 let part = catalogue.part_in(of, index, room);
-                self.leaf = Some(Leaf::Number(begin(
+                self.leaf = Some(Leaf::Number(descend_to_number(
                     catalogue,
                     &mut self.outer,
                     &mut self.inside,
@@ -353,9 +356,9 @@ impl Decoder {
                     inside: Some(order),
                     told: None,
                 });
-                self.inside = within_encapsulation(self.inside);
+                self.inside = within_after_encapsulation(self.inside);
                 let part = catalogue.part(of, 0);
-                self.leaf = Some(Leaf::Number(begin(
+                self.leaf = Some(Leaf::Number(descend_to_number(
                     catalogue,
                     &mut self.outer,
                     &mut self.inside,
@@ -363,13 +366,13 @@ impl Decoder {
                 )));
             }
             Transition::Ended => {
-                self.leaf = go_on(catalogue, &mut self.outer, &mut self.inside);
-                self.inside = is_inside(self.inside, self.outer.as_slice());
+                self.leaf = go_on_after_part(catalogue, &mut self.outer, &mut self.inside);
+                self.inside = within_of(self.inside, self.outer.as_slice());
             }
             Transition::Recursed(_) => unreachable!(),
             Transition::Stopped => {
-                self.leaf = stop(catalogue, &mut self.outer, &mut self.inside);
-                self.inside = is_inside(self.inside, self.outer.as_slice());
+                self.leaf = go_on_at_untyped(catalogue, &mut self.outer, &mut self.inside);
+                self.inside = within_of(self.inside, self.outer.as_slice());
             }
         }
     }
@@ -377,7 +380,7 @@ impl Decoder {
     /// What a transition of the innermost part, which has this type, does in the room that is left.
     /// The elements of a recursive sequence begin, or octets of no known type come.
     #[inline(always)]
-    fn settled(
+    fn resolve_recursion(
         &self,
         catalogue: &SeenCatalogue<'_>,
         of: TypeId,
@@ -385,7 +388,7 @@ impl Decoder {
     ) -> Transition
         requires known { of.0 < length catalogue.now.types }
         requires room { length self.now.outer.items < 24 }
-        ensures { result ≡ settled_by transition
+        ensures { result ≡ resolve_recursion transition
             (elements_fit (tree_in catalogue.now self.now.outer.items of.0)) }
     {
         match transition {
@@ -405,32 +408,32 @@ impl Decoder {
     /// Writes and notes the output, and makes the transition. A piece that is written has the
     /// octets that are held, and then the rest.
     #[inline(always)]
-    pub(crate) fn emit<O: Out>(
+    pub(crate) fn write_and_advance<O: Out>(
         &mut self,
         catalogue: &SeenCatalogue<'_>,
         ahead: Lookahead<'_>,
         out: &mut O,
     ) -> Result<Progress, OutFault>
-        requires counted { (d : Before) × IsBehind catalogue.now d self.old ahead.of.0
+        requires counted { (d : Before) × HasCountedOctet catalogue.now d self.old ahead.of.0
             ahead.step ahead.rest.now }
         requires transition_fits { TransitionFits
             (tree_in catalogue.now self.old.outer.items ahead.of.0) ahead.of.0
             ahead.step.transition self.old.carry
-            (still_held ahead.step.output self.old.piece.items) }
-        requires lets_go { LetsGo ahead.step.transition self.old.carry
-            (still_held ahead.step.output self.old.piece.items) }
+            (held_after_output ahead.step.output self.old.piece.items) }
+        requires lets_go { HoldsNothingAfter ahead.step.transition self.old.carry
+            (held_after_output ahead.step.output self.old.piece.items) }
         requires has_output { HasOutput
             (tree_in catalogue.now self.old.outer.items ahead.of.0) ahead.step.output }
         requires short { 0 < length ahead.rest.now →
             length self.old.piece.items + length ahead.rest.now ≤ 32 }
         ensures passes { IfOk result (λ p. (d : Before) →
-            IsBehind catalogue.now d self.old ahead.entry.of.0
-            ahead.entry.step ahead.entry.rest.now → Passes catalogue.now d self.new
+            HasCountedOctet catalogue.now d self.old ahead.entry.of.0
+            ahead.entry.step ahead.entry.rest.now → NotesAndAdvances catalogue.now d self.new
             ahead.entry.of.0 ahead.entry.step ahead.entry.rest.now p) }
-        ensures writes { (d : Before) → IsBehind catalogue.now d self.old ahead.entry.of.0
+        ensures writes { (d : Before) → HasCountedOctet catalogue.now d self.old ahead.entry.of.0
             ahead.entry.step ahead.entry.rest.now →
             (here at : ℕ) (lines : List ValueAt) →
-            Gives catalogue.now d ahead.entry.of.0 ahead.entry.step ahead.entry.rest.now
+            AreStepLines catalogue.now d ahead.entry.of.0 ahead.entry.step ahead.entry.rest.now
             here at lines →
             Writes result (O.log out.old) (O.log out.new)
             (lines_text self.old.head.message self.old.head.root lines) }
@@ -447,25 +450,29 @@ impl Decoder {
             },
             out,
         )?;
-        Ok(self.pass(catalogue, ahead))
+        Ok(self.note_and_advance(catalogue, ahead))
     }
 
-    /// Does what `emit` does, but writes no line.
+    /// Does what `write_and_advance` does, but writes no line.
     #[inline(always)]
-    pub(crate) fn pass(&mut self, catalogue: &SeenCatalogue<'_>, ahead: Lookahead<'_>) -> Progress
-        requires counted { (d : Before) × IsBehind catalogue.now d self.old ahead.of.0
+    pub(crate) fn note_and_advance(
+        &mut self,
+        catalogue: &SeenCatalogue<'_>,
+        ahead: Lookahead<'_>,
+    ) -> Progress
+        requires counted { (d : Before) × HasCountedOctet catalogue.now d self.old ahead.of.0
             ahead.step ahead.rest.now }
         requires transition_fits { TransitionFits
             (tree_in catalogue.now self.old.outer.items ahead.of.0) ahead.of.0
             ahead.step.transition self.old.carry
-            (still_held ahead.step.output self.old.piece.items) }
-        requires lets_go { LetsGo ahead.step.transition self.old.carry
-            (still_held ahead.step.output self.old.piece.items) }
+            (held_after_output ahead.step.output self.old.piece.items) }
+        requires lets_go { HoldsNothingAfter ahead.step.transition self.old.carry
+            (held_after_output ahead.step.output self.old.piece.items) }
         requires has_output { HasOutput
             (tree_in catalogue.now self.old.outer.items ahead.of.0) ahead.step.output }
-        ensures { (d : Before) → IsBehind catalogue.now d self.old ahead.entry.of.0
+        ensures { (d : Before) → HasCountedOctet catalogue.now d self.old ahead.entry.of.0
             ahead.entry.step ahead.entry.rest.now →
-            Passes catalogue.now d self.new
+            NotesAndAdvances catalogue.now d self.new
             ahead.entry.of.0 ahead.entry.step ahead.entry.rest.now result }
     {
         let named = self.notes.note(
@@ -479,10 +486,10 @@ impl Decoder {
                 rest: ahead.rest,
             },
         );
-        let_go(ahead.step.output, &mut self.piece);
-        let transition = self.settled(catalogue, ahead.of, ahead.step.transition);
+        drop_written_piece(ahead.step.output, &mut self.piece);
+        let transition = self.resolve_recursion(catalogue, ahead.of, ahead.step.transition);
         self.advance_frames(catalogue, ahead.of, transition);
-        let ended = has_ended(self.inside, self.outer.as_slice());
+        let ended = any_encapsulation_ended(self.inside, self.outer.as_slice());
         progress_of(named, ended, ahead.step.transition, self.leaf)
     }
 }

@@ -7,10 +7,10 @@ ghost use Rattle.giop_sig.specs.Fits.{IsFit};
 ghost use Rattle.giop_decode.specs.ReadResult.{Coding, PathSegment, ValueAt, OpenPart, Leaf, Read, Short, lines_of, with_front};
 ghost use Rattle.giop_decode.specs.Reading.{read, reading};
 ghost use Rattle.giop_decode.specs.Begins.{start_outer, start_leaf};
-ghost use Rattle.giop_decode.specs.ReadingSteps.{step, advance, around, root_step, root_advance, root_resumes, resumes, heard_parts, IsOctetResult};
-ghost use Rattle.giop_decode.specs.Fits.{FitsIn, Sound, Surrounds};
+ghost use Rattle.giop_decode.specs.ReadingSteps.{step, read_after_octet, resume_outer, root_step, root_after_octet, root_after_octets, read_after_octets, parts_after_lines, IsOctetResult};
+ghost use Rattle.giop_decode.specs.Fits.{FitsIn, IsSoundReading, AllHoldOffset};
 ghost use Rattle.giop_decode.specs.Noted.{noted_of};
-ghost use Rattle.giop_decode.specs.NotedFromLines.{TextPiece, pieces_of, AreUnended, IsLeft};
+ghost use Rattle.giop_decode.specs.NotedFromLines.{TextPiece, pieces_of, AreUnended, IsNotedOfReading};
 
 /// The reading of a list depends on the parts that the reading of a front of it has begun and not
 /// ended, and on the octets after that front. This function has no body and is called for its
@@ -19,11 +19,12 @@ pub fn reading_laws()
     // One more octet is one step on those parts.
     ensures step { (coding : Coding) (path : List PathSegment) (T : Ty) (at : ℕ)
         (s : List ℕ) (b : ℕ) →
-        read coding path T at (s ++ b ∷ []) ≡ advance coding path (read coding path T at s) b }
+        read coding path T at (s ++ b ∷ [])
+        ≡ read_after_octet coding path (read coding path T at s) b }
     // More octets are as many steps: a reading may be left and resumed anywhere.
     ensures more { (coding : Coding) (path : List PathSegment) (T : Ty) (at : ℕ)
         (s t : List ℕ) →
-        read coding path T at (s ++ t) ≡ resumes coding path (read coding path T at s) t }
+        read coding path T at (s ++ t) ≡ read_after_octets coding path (read coding path T at s) t }
     // The lines of a longer list begin with those of a shorter one.
     ensures lines { (coding : Coding) (path : List PathSegment) (T : Ty) (at : ℕ) (s t : List ℕ) →
         (more : List ValueAt)
@@ -45,13 +46,13 @@ pub fn reading_laws()
     ensures sound { (d : ℕ) (coding : Coding) (path : List PathSegment) (T : Ty) (at : ℕ)
         (s : List ℕ) →
         IsFit d T →
-        Sound T (at + length s) (read coding path T at s) }
+        IsSoundReading T (at + length s) (read coding path T at s) }
     // A step from any parts that fit, none of whose encapsulations has ended, leaves such parts.
     ensures kept { (d : ℕ) (coding : Coding) (path : List PathSegment) (T : Ty)
         (outer : List OpenPart)
         (leaf : Leaf) (at b : ℕ) → IsFit d T →
-        FitsIn T outer leaf → Surrounds at outer →
-        Sound T (at + 1) (step coding path outer leaf at b) }
+        FitsIn T outer leaf → AllHoldOffset at outer →
+        IsSoundReading T (at + 1) (step coding path outer leaf at b) }
 {}
 
 /// What is noted of a reading depends on its lines: the first request id of a header, the last
@@ -60,7 +61,8 @@ pub fn reading_laws()
 pub fn noting_laws()
     ensures left { (is_header : Bool) (coding : Coding) (path : List PathSegment) (T : Ty) (at : ℕ)
         (s : List ℕ) →
-        IsLeft is_header (read coding path T at s) (noted_of is_header (read coding path T at s)) }
+        IsNotedOfReading is_header (read coding path T at s)
+        (noted_of is_header (read coding path T at s)) }
     // Lines have the pieces of at most one list of contents.
     ensures same { (contents others : List (List ℕ)) (begun other : List TextPiece) →
         AreUnended begun → AreUnended other →
@@ -75,12 +77,12 @@ pub fn whole_laws()
     ensures step { (coding : Coding) (path : List PathSegment) (T : Ty) (at : ℕ)
         (s : List ℕ) (b : ℕ) →
         reading coding path T at (s ++ b ∷ [])
-        ≡ root_advance coding path (reading coding path T at s) b }
+        ≡ root_after_octet coding path (reading coding path T at s) b }
     // More octets are as many steps.
     ensures more { (coding : Coding) (path : List PathSegment) (T : Ty) (at : ℕ)
         (s t : List ℕ) →
         reading coding path T at (s ++ t)
-        ≡ root_resumes coding path (reading coding path T at s) t }
+        ≡ root_after_octets coding path (reading coding path T at s) t }
     // The lines of a longer list begin with those of a shorter one.
     ensures lines { (coding : Coding) (path : List PathSegment) (T : Ty) (at : ℕ) (s t : List ℕ) →
         (more : List ValueAt)
@@ -97,12 +99,12 @@ pub fn whole_laws()
     ensures sound { (d : ℕ) (coding : Coding) (path : List PathSegment) (T : Ty) (at : ℕ)
         (s : List ℕ) →
         IsFit d T →
-        Sound T (at + length s) (reading coding path T at s) }
+        IsSoundReading T (at + length s) (reading coding path T at s) }
     ensures kept { (d : ℕ) (coding : Coding) (path : List PathSegment) (T : Ty)
         (outer : List OpenPart)
         (leaf : Leaf) (at b : ℕ) → IsFit d T →
-        FitsIn T outer leaf → Surrounds at outer →
-        Sound T (at + 1) (root_step coding path outer leaf at b) }
+        FitsIn T outer leaf → AllHoldOffset at outer →
+        IsSoundReading T (at + 1) (root_step coding path outer leaf at b) }
     // Readings of a list by two codings are the same if the orders are, and the phases at the octets
     // of the list.
     ensures same { (coding other : Coding) (path : List PathSegment) (T : Ty) (at : ℕ)
@@ -113,6 +115,6 @@ pub fn whole_laws()
     // before what is read next.
     ensures heard { (coding : Coding) (path : List PathSegment) (outer : List OpenPart)
         (lines : List ValueAt) (r : Read) →
-        around coding path outer (with_front lines r)
-        ≡ with_front lines (around coding path (heard_parts lines outer) r) }
+        resume_outer coding path outer (with_front lines r)
+        ≡ with_front lines (resume_outer coding path (parts_after_lines lines outer) r) }
 {}

@@ -3,26 +3,26 @@
 ghost use Rattle.std.specs.Prelude.{◌≡◌, ℕ, suc, ◌+◌, ◌<◌, ◌≤◌, ◌++◌, length, take, eqb, false};
 ghost use Rattle.giop_cdr.specs.Alignment.{IsAlignment, padding};
 ghost use Rattle.giop_cdr.specs.Numbers.{num};
-ghost use Rattle.giop_decode.specs.Pieces.{over};
-ghost use Rattle.giop_decode.specs.Reading.{wrong};
+ghost use Rattle.giop_decode.specs.Pieces.{bound_fault};
+ghost use Rattle.giop_decode.specs.Reading.{number_fault};
 ghost use Rattle.giop_decode.specs.Runs.{IsStep, IsStepOf};
 ghost use Rattle.giop_decode.specs.ReadingSteps.{leading_width};
 ghost use Rattle.giop_decode.specs.Fits.{HasLeadingNumber};
-ghost use Rattle.giop_decode.specs.Transitions.{IsNumberOf, NumberStands, over_by, unnamed_by};
+ghost use Rattle.giop_decode.specs.Transitions.{IsNumberOf, BelongToNumber, bound_fault_if, enum_fault_if};
 ghost use Rattle.giop_sig.specs.declared.types.Shape.TheVariants as Shape;
 ghost use Rattle.giop_sig.specs.Types.{HasShape, Marked, Ty, Text, Octets, OctetKind, bound_of, Sequence, switch_of, shape_in, IsUnion};
 ghost use Rattle.giop_sig.specs.Fits.{IsFit};
 ghost use Rattle.giop_sig.specs.Trees.{tree, tree_at};
 
 use crate::encapsulation;
-use crate::leaf::{Leaf, Output, Step, Transition, refused};
+use crate::leaf::{Leaf, Output, Step, Transition, refused_step};
 use crate::progress::ValueFault;
 use giop_cdr::{Carry, Number, Order, Prim, number_of, pad, size};
 use giop_sig::{SeenCatalogue, Selected, Shape, TypeId, is_kind, kind_word};
 
 /// How many octets the number has that begins a type.
 #[inline(always)]
-pub(crate) fn width(catalogue: &SeenCatalogue<'_>, t: TypeId) -> u8
+pub(crate) fn leading_width(catalogue: &SeenCatalogue<'_>, t: TypeId) -> u8
     requires known { t.0 < length catalogue.now.types }
     ensures width { (n : ℕ) → HasLeadingNumber (tree_at catalogue.now (suc n) t.0) →
         result ≡ leading_width (tree_at catalogue.now (suc n) t.0) }
@@ -77,18 +77,18 @@ pub(crate) fn hold_number(carry: &mut Carry, at: u8, width: u8, octets: &[u8]) -
     requires small { at < 8 }
     requires some { 0 < length octets.now }
     ensures size { length carry.new ≤ width }
-    ensures stands { NumberStands width at carry.old octets.now result
+    ensures stands { BelongToNumber width at carry.old octets.now result
         (eqb (length carry.new) width) carry.new }
 {
     if !carry.is_empty() {
-        return hold_some(carry, width, octets);
+        return hold_octets(carry, width, octets);
     }
     let padding = usize::from(padding_at(at, width)).min(octets.len());
-    padding + hold_some(carry, width, &octets[padding..])
+    padding + hold_octets(carry, width, &octets[padding..])
 }
 
 /// Holds octets of a number up to its last. Answers how many these are.
-fn hold_some(carry: &mut Carry, width: u8, octets: &[u8]) -> usize
+fn hold_octets(carry: &mut Carry, width: u8, octets: &[u8]) -> usize
     requires width { IsAlignment width }
     requires room { length carry.old < width }
     ensures within { result ≤ length octets.now }
@@ -106,7 +106,7 @@ fn hold_some(carry: &mut Carry, width: u8, octets: &[u8]) -> usize
 
 /// Goes on after the number that begins a type. It has these octets.
 #[inline(always)]
-pub(crate) fn take_value(
+pub(crate) fn value_step(
     catalogue: &SeenCatalogue<'_>,
     order: Order,
     of: TypeId,
@@ -125,33 +125,33 @@ pub(crate) fn take_value(
                 transition: Transition::Ended,
                 output: Output::Number(number),
             },
-            Err(_) => refused(ValueFault::Boolean),
+            Err(_) => refused_step(ValueFault::Boolean),
         },
         Shape::Enumeration(count) => {
             let n = long_of(order, octets);
             if n >= count {
-                return refused(ValueFault::Enum);
+                return refused_step(ValueFault::Enum);
             }
             Step {
                 transition: Transition::Ended,
                 output: Output::Number(Number::Unsigned(u64::from(n))),
             }
         }
-        Shape::Text(bound) => take_length(catalogue, of, bound, long_of(order, octets)),
-        Shape::Octets(bound) => take_size(catalogue, of, bound, long_of(order, octets)),
-        Shape::WideText => take_size(catalogue, of, None, long_of(order, octets)),
-        Shape::WideChar => take_size(catalogue, of, None, octet_of(order, octets)),
-        Shape::Sequence(bound) => take_count(catalogue, of, bound, long_of(order, octets)),
-        Shape::Recursive(bound) => take_recursive(catalogue, of, bound, long_of(order, octets)),
-        Shape::Union(_) => take_switch(catalogue, order, of, octets),
-        Shape::Tagged => take_switch(catalogue, order, of, octets),
-        Shape::Encapsulation => encapsulation::take_length(catalogue, of, long_of(order, octets)),
+        Shape::Text(bound) => length_step(catalogue, of, bound, long_of(order, octets)),
+        Shape::Octets(bound) => size_step(catalogue, of, bound, long_of(order, octets)),
+        Shape::WideText => size_step(catalogue, of, None, long_of(order, octets)),
+        Shape::WideChar => size_step(catalogue, of, None, octet_of(order, octets)),
+        Shape::Sequence(bound) => count_step(catalogue, of, bound, long_of(order, octets)),
+        Shape::Recursive(bound) => recursive_step(catalogue, of, bound, long_of(order, octets)),
+        Shape::Union(_) => switch_step(catalogue, order, of, octets),
+        Shape::Tagged => switch_step(catalogue, order, of, octets),
+        Shape::Encapsulation => encapsulation::length_step(catalogue, of, long_of(order, octets)),
         Shape::Members(_) => unreachable!(),
         Shape::Array(_) => unreachable!(),
         Shape::Marked(mark) => {
             let n = long_of(order, octets);
             if is_unnamed(mark, n) {
-                return refused(ValueFault::Enum);
+                return refused_step(ValueFault::Enum);
             }
             Step {
                 transition: Transition::Ended,
@@ -165,14 +165,14 @@ pub(crate) fn take_value(
 /// Whether a number with this mark is a kind without a word.
 #[inline]
 fn is_unnamed(mark: u32, n: u32) -> bool
-    ensures { wrong (Marked mark) n ≡ unnamed_by result }
+    ensures { number_fault (Marked mark) n ≡ enum_fault_if result }
 {
     is_kind(mark) && kind_word(mark, n).is_none()
 }
 
 /// Goes on after the number of a union's discriminator. It has these octets.
 #[inline(always)]
-fn take_switch(catalogue: &SeenCatalogue<'_>, order: Order, of: TypeId, octets: &[u8]) -> Step
+fn switch_step(catalogue: &SeenCatalogue<'_>, order: Order, of: TypeId, octets: &[u8]) -> Step
     requires known { of.0 < length catalogue.now.types }
     requires union { IsUnion (shape_in (tree catalogue.now of.0)) }
     requires fit { (d room : ℕ) × IsFit d (tree_at catalogue.now room of.0) }
@@ -182,22 +182,22 @@ fn take_switch(catalogue: &SeenCatalogue<'_>, order: Order, of: TypeId, octets: 
 {
     match catalogue.shape(catalogue.switch_type(of)) {
         Shape::Prim(prim) => match number_of(order, prim, octets) {
-            Ok(number) => take_selected(catalogue, of, number),
-            Err(_) => refused(ValueFault::Boolean),
+            Ok(number) => selected_step(catalogue, of, number),
+            Err(_) => refused_step(ValueFault::Boolean),
         },
         Shape::Enumeration(count) => {
             let label = long_of(order, octets);
             if label >= count {
-                return refused(ValueFault::Enum);
+                return refused_step(ValueFault::Enum);
             }
-            take_selected(catalogue, of, Number::Unsigned(u64::from(label)))
+            selected_step(catalogue, of, Number::Unsigned(u64::from(label)))
         }
         Shape::Marked(mark) => {
             let kind = long_of(order, octets);
             if is_unnamed(mark, kind) {
-                return refused(ValueFault::Enum);
+                return refused_step(ValueFault::Enum);
             }
-            take_selected(catalogue, of, Number::Unsigned(u64::from(kind)))
+            selected_step(catalogue, of, Number::Unsigned(u64::from(kind)))
         }
         _ => unreachable!(),
     }
@@ -205,7 +205,7 @@ fn take_switch(catalogue: &SeenCatalogue<'_>, order: Order, of: TypeId, octets: 
 
 /// Goes on after the number of a union's discriminator, with this value.
 #[inline(always)]
-fn take_selected(catalogue: &SeenCatalogue<'_>, of: TypeId, number: Number) -> Step
+fn selected_step(catalogue: &SeenCatalogue<'_>, of: TypeId, number: Number) -> Step
     requires known { of.0 < length catalogue.now.types }
     requires union { IsUnion (shape_in (tree catalogue.now of.0)) }
     requires fit { (d room : ℕ) × IsFit d (tree_at catalogue.now room of.0) }
@@ -224,13 +224,13 @@ fn take_selected(catalogue: &SeenCatalogue<'_>, of: TypeId, number: Number) -> S
             transition: Transition::Ended,
             output: Output::Switch(number),
         },
-        Selected::Refused => refused(ValueFault::Disposition),
+        Selected::Refused => refused_step(ValueFault::Disposition),
     }
 }
 
 /// Goes on after the length of a string.
 #[inline(always)]
-pub(crate) fn take_length(
+pub(crate) fn length_step(
     catalogue: &SeenCatalogue<'_>,
     of: TypeId,
     bound: Option<u32>,
@@ -264,7 +264,7 @@ pub(crate) fn take_length(
 
 /// Goes on after the number of counted octets.
 #[inline(always)]
-pub(crate) fn take_size(
+pub(crate) fn size_step(
     catalogue: &SeenCatalogue<'_>,
     of: TypeId,
     bound: Option<u32>,
@@ -276,7 +276,7 @@ pub(crate) fn take_size(
     ensures transitions { IsStepOf catalogue.now of.0 n result }
 {
     if exceeds(bound, n) {
-        return refused(ValueFault::Bound);
+        return refused_step(ValueFault::Bound);
     }
     if n == 0 {
         return Step {
@@ -296,7 +296,7 @@ pub(crate) fn take_size(
 
 /// Goes on after the count of a sequence's elements.
 #[inline(always)]
-pub(crate) fn take_count(
+pub(crate) fn count_step(
     catalogue: &SeenCatalogue<'_>,
     of: TypeId,
     bound: Option<u32>,
@@ -309,7 +309,7 @@ pub(crate) fn take_count(
 {
     catalogue.laws();
     if exceeds(bound, n) {
-        return refused(ValueFault::Bound);
+        return refused_step(ValueFault::Bound);
     }
     let output = Output::Count(n);
     if n == 0 {
@@ -326,7 +326,7 @@ pub(crate) fn take_count(
 
 /// Goes on after the count of a recursive sequence's elements. There may be at most `most`.
 #[inline(never)]
-fn take_recursive(catalogue: &SeenCatalogue<'_>, of: TypeId, most: Option<u32>, n: u32) -> Step
+fn recursive_step(catalogue: &SeenCatalogue<'_>, of: TypeId, most: Option<u32>, n: u32) -> Step
     requires is { HasShape (tree catalogue.now of.0) (Shape.Recursive most) }
     requires fit { (d room : ℕ) × IsFit d (tree_at catalogue.now room of.0) }
     ensures fits { IsStep catalogue.now of.0 result }
@@ -334,7 +334,7 @@ fn take_recursive(catalogue: &SeenCatalogue<'_>, of: TypeId, most: Option<u32>, 
 {
     catalogue.laws();
     if exceeds(most, n) {
-        return refused(ValueFault::Bound);
+        return refused_step(ValueFault::Bound);
     }
     let output = Output::Count(n);
     if n == 0 {
@@ -351,7 +351,7 @@ fn take_recursive(catalogue: &SeenCatalogue<'_>, of: TypeId, most: Option<u32>, 
 
 /// Whether a count is above its bound.
 fn exceeds(bound: Option<u32>, n: u32) -> bool
-    ensures { over bound n ≡ over_by result }
+    ensures { bound_fault bound n ≡ bound_fault_if result }
 {
     match bound {
         None => false,

@@ -116,7 +116,7 @@ pub(crate) struct Finished<'a> {
 
 /// The step of an octet that breaks a rule.
 #[inline(always)]
-pub(crate) fn refused(kind: ValueFault) -> Step
+pub(crate) fn refused_step(kind: ValueFault) -> Step
     ensures transition { result.transition ≡ Transition.Refused kind }
     ensures output { result.output ≡ Output.Nothing }
 {
@@ -128,7 +128,7 @@ pub(crate) fn refused(kind: ValueFault) -> Step
 
 /// The step of an octet that ends its part.
 #[inline(always)]
-pub(crate) fn ended(output: Output) -> Step
+pub(crate) fn ended_step(output: Output) -> Step
     ensures { result ≡ record { transition = Transition.Ended; output = output } }
 {
     Step {

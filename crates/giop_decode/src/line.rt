@@ -5,7 +5,7 @@ ghost use Rattle.giop_decode.specs.ReadResult.{ValueAt};
 ghost use Rattle.giop_decode.specs.ReadResult as results;
 ghost use Rattle.giop_decode.specs.Fits.{HasContent};
 ghost use Rattle.giop_decode.specs.Spelling.{value_text, lines_text};
-ghost use Rattle.giop_decode.specs.Passes.{Finishes};
+ghost use Rattle.giop_decode.specs.Passes.{AreFinishedLines};
 ghost use Rattle.giop_decode.specs.Transitions.{AreKnown, IsNumberOf, HasOutput, tree_in};
 ghost use Rattle.giop_decode.specs.Segments.{current_path_text};
 ghost use Rattle.giop_print.specs.Output.{Writes};
@@ -139,7 +139,7 @@ pub(crate) fn write_line<O: Out>(
         finished.output }
     requires short { length finished.held.now + length finished.rest.now ≤ 32 }
     ensures { (here at : ℕ) (lines : List ValueAt) →
-        Finishes catalogue.now outer.now finished.entry here at lines →
+        AreFinishedLines catalogue.now outer.now finished.entry here at lines →
         Writes result (O.log out.old) (O.log out.new)
         (lines_text head.now.message head.now.root lines) }
 {

@@ -3,8 +3,8 @@
 ghost use Rattle.std.specs.Prelude.{◌≡◌, ℕ, ◌-◌, ◌<◌, ◌≤◌, [], true, length, Some, IfSome, IfNone};
 ghost use Rattle.giop_cdr.specs.Alignment.{IsAlignment};
 ghost use Rattle.giop_cdr.specs.Primitives.{size_of};
-ghost use Rattle.giop_decode.specs.Pieces.{tail};
-ghost use Rattle.giop_decode.specs.Transitions.{IsWholeLong, IsWholeNumber, NumberStands};
+ghost use Rattle.giop_decode.specs.Pieces.{terminator_size};
+ghost use Rattle.giop_decode.specs.Transitions.{IsWholeLong, IsWholeNumber, BelongToNumber};
 ghost use Rattle.giop_sig.specs.Types.{Single, Plain};
 ghost use Rattle.giop_sig.specs.Trees.{tree_at};
 
@@ -30,7 +30,7 @@ pub(crate) struct Lookahead<'a> {
 /// `count` octets of a part. The last of them makes this step, and `rest` are those that belong to
 /// the piece that is written.
 #[inline(always)]
-pub(crate) fn ahead_of(of: TypeId, count: usize, step: Step, rest: &[u8]) -> Lookahead<'_>
+pub(crate) fn lookahead_of(of: TypeId, count: usize, step: Step, rest: &[u8]) -> Lookahead<'_>
     ensures of { result.of ≡ of }
     ensures count { result.count ≡ count }
     ensures step { result.step ≡ step }
@@ -47,10 +47,10 @@ pub(crate) fn ahead_of(of: TypeId, count: usize, step: Step, rest: &[u8]) -> Loo
 /// How many octets come after a piece, if `left` octets of its content are left: a zero after the
 /// last piece of a string.
 #[inline(always)]
-pub(crate) fn octets_behind(catalogue: &SeenCatalogue<'_>, of: TypeId, left: usize) -> usize
+pub(crate) fn octets_after_piece(catalogue: &SeenCatalogue<'_>, of: TypeId, left: usize) -> usize
     requires known { of.0 < length catalogue.now.types }
     ensures full { 32 < left → result ≡ 0 }
-    ensures last { (n : ℕ) → left ≤ 32 → result ≡ tail (tree_at catalogue.now n of.0) }
+    ensures last { (n : ℕ) → left ≤ 32 → result ≡ terminator_size (tree_at catalogue.now n of.0) }
 {
     if left > 32 {
         return 0;
@@ -63,7 +63,7 @@ pub(crate) fn octets_behind(catalogue: &SeenCatalogue<'_>, of: TypeId, left: usi
 
 /// Octets that are held of a part that goes on.
 #[inline(always)]
-pub(crate) fn held(of: TypeId, count: usize, leaf: Leaf) -> Lookahead<'static>
+pub(crate) fn held_ahead(of: TypeId, count: usize, leaf: Leaf) -> Lookahead<'static>
     ensures of { result.of ≡ of }
     ensures count { result.count ≡ count }
     ensures step { result.step
@@ -98,10 +98,10 @@ pub(crate) fn whole_number(
 {
     match catalogue.shape(of) {
         Shape::Prim(prim) => match size(prim) {
-            1 => wide_number(order, prim, 1, at, octets),
-            2 => wide_number(order, prim, 2, at, octets),
-            4 => wide_number(order, prim, 4, at, octets),
-            _ => wide_number(order, prim, 8, at, octets),
+            1 => number_of_width(order, prim, 1, at, octets),
+            2 => number_of_width(order, prim, 2, at, octets),
+            4 => number_of_width(order, prim, 4, at, octets),
+            _ => number_of_width(order, prim, 8, at, octets),
         },
         _ => None,
     }
@@ -111,7 +111,7 @@ pub(crate) fn whole_number(
 /// many octets it takes with its padding. The first octet has this phase modulo 8. Callers give the
 /// width as a constant.
 #[inline(always)]
-fn wide_number(
+fn number_of_width(
     order: Order,
     prim: Prim,
     width: u8,
@@ -153,7 +153,7 @@ pub(crate) fn whole_octets(width: u8, at: u8, octets: &[u8]) -> Option<(usize, &
     requires aligned { IsAlignment width }
     requires small { at < 8 }
     ensures stands { IfSome result (λ whole.
-        NumberStands width at [] octets.now whole.0 true whole.1.now) }
+        BelongToNumber width at [] octets.now whole.0 true whole.1.now) }
     ensures width { IfSome result (λ whole. length whole.1.now ≡ width) }
 {
     let padding = usize::from(padding_at(at, width));

@@ -2,12 +2,12 @@
 //! interface of its object key, the number of an enum, and the last string as a name.
 
 ghost use Rattle.std.specs.Prelude.{◌≡◌, ℕ, ◌<◌, ◌≤◌, ◌&&◌, Bool, IsTrue, IfSome, true, false, codes, List, [], ◌++◌, length};
-ghost use Rattle.giop_decode.specs.Noted.{Noted, nothing_noted, with_piece, ended, noted_piece, is_name, is_member, is_key_path, is_header_root, without_name_if, note_value, noted, names_operation, expects_after, with_expects, may_have_key, with_key_piece, key_ended, noted_key};
-ghost use Rattle.giop_decode.specs.SeenState.{AreOfRoot, HoldsNoKey, HoldsNoted, interface_of};
-ghost use Rattle.giop_decode.specs.NotingSteps.{IsForKey, clears_name, is_set};
+ghost use Rattle.giop_decode.specs.Noted.{Noted, nothing_noted, with_string_piece, with_string_ended, note_string_piece, is_name, is_member, is_key_path, is_header_root, without_name_if, note_value, note_lines, names_operation, expects_after, with_expects, may_have_key, with_key_piece, with_key_ended, note_key_piece};
+ghost use Rattle.giop_decode.specs.SeenState.{NotesFitRoot, HoldsNoKey, HoldsNoted, interface_of};
+ghost use Rattle.giop_decode.specs.NotingSteps.{MayNoteKey, clears_name, is_set};
 ghost use Rattle.giop_decode.specs.ReadResult.{ValueAt};
 ghost use Rattle.giop_decode.specs.ReadResult as results;
-ghost use Rattle.giop_decode.specs.Passes.{Finishes};
+ghost use Rattle.giop_decode.specs.Passes.{AreFinishedLines};
 ghost use Rattle.giop_decode.specs.ReadingSteps.{path_in, segment_in};
 ghost use Rattle.giop_decode.specs.Transitions.{open_part, open_parts, tree_in, AreKnown, IsKnown, IsNumberOf, HasOutput};
 ghost use Rattle.giop_print.specs.declared.path.Root.{Root as PathRoot};
@@ -90,7 +90,7 @@ impl Notes {
 
     /// Clears the last name, because the length of a string has come.
     #[inline(always)]
-    fn forget(&mut self)
+    fn forget_name(&mut self)
         ensures notes { (C : Table) (asked : Bool) (h : Noted) → HoldsNoted C asked self.old h →
             HoldsNoted C asked self.new (without_name_if true h) }
         ensures id { self.new.request_id ≡ self.old.request_id }
@@ -112,28 +112,28 @@ impl Notes {
 
     /// Notes octets of a string whose end is to come. The buffer has no whole name.
     #[inline(always)]
-    fn extend(&mut self, octets: &[u8])
+    fn extend_string(&mut self, octets: &[u8])
         requires { self.old.buffer ≡ Buffer.Whole → ⊥ }
         ensures notes { (C : Table) (asked : Bool) (h : Noted) → HoldsNoted C asked self.old h →
-            HoldsNoted C asked self.new (with_piece h octets.now) }
+            HoldsNoted C asked self.new (with_string_piece h octets.now) }
         ensures id { self.new.request_id ≡ self.old.request_id }
         ensures last { self.new.last ≡ self.old.last }
         ensures begun { self.new.buffer ≡ Buffer.Whole → ⊥ }
         ensures no_key { HoldsNoKey self.new.buffer }
     {
         match self.buffer {
-            Buffer::Begun => self.add(octets),
-            _ => self.extend_anew(octets),
+            Buffer::Begun => self.extend_begun_string(octets),
+            _ => self.extend_unbegun_string(octets),
         }
     }
 
     /// The same, if the buffer has the octets of an object key, or is too short for its string.
     #[inline(never)]
-    fn extend_anew(&mut self, octets: &[u8])
+    fn extend_unbegun_string(&mut self, octets: &[u8])
         requires whole { self.old.buffer ≡ Buffer.Whole → ⊥ }
         requires begun { self.old.buffer ≡ Buffer.Begun → ⊥ }
         ensures notes { (C : Table) (asked : Bool) (h : Noted) → HoldsNoted C asked self.old h →
-            HoldsNoted C asked self.new (with_piece h octets.now) }
+            HoldsNoted C asked self.new (with_string_piece h octets.now) }
         ensures id { self.new.request_id ≡ self.old.request_id }
         ensures last { self.new.last ≡ self.old.last }
         ensures begun { self.new.buffer ≡ Buffer.Whole → ⊥ }
@@ -144,18 +144,18 @@ impl Notes {
             Buffer::Whole => {}
             Buffer::TooLong => {}
             Buffer::Key => {
-                self.begin();
-                self.add(octets);
+                self.begin_string();
+                self.extend_begun_string(octets);
             }
             Buffer::LongKey => {
-                self.begin();
-                self.add(octets);
+                self.begin_string();
+                self.extend_begun_string(octets);
             }
         }
     }
 
     /// Begins to note a string instead of an object key.
-    fn begin(&mut self)
+    fn begin_string(&mut self)
         requires { HoldsNoKey self.old.buffer → ⊥ }
         ensures notes { (C : Table) (asked : Bool) (h : Noted) → HoldsNoted C asked self.old h →
             HoldsNoted C asked self.new (record h { key_so_far = [] }) }
@@ -169,10 +169,10 @@ impl Notes {
 
     /// The same, if the buffer has the octets of a string that hasn't ended.
     #[inline(always)]
-    fn add(&mut self, octets: &[u8])
+    fn extend_begun_string(&mut self, octets: &[u8])
         requires { self.old.buffer ≡ Buffer.Begun }
         ensures notes { (C : Table) (asked : Bool) (h : Noted) → HoldsNoted C asked self.old h →
-            HoldsNoted C asked self.new (with_piece h octets.now) }
+            HoldsNoted C asked self.new (with_string_piece h octets.now) }
         ensures id { self.new.request_id ≡ self.old.request_id }
         ensures last { self.new.last ≡ self.old.last }
         ensures begun { self.new.buffer ≡ Buffer.Whole → ⊥ }
@@ -186,11 +186,11 @@ impl Notes {
 
     /// Notes that a string has ended.
     #[inline(always)]
-    fn end(&mut self)
+    fn end_string(&mut self)
         requires whole { self.old.buffer ≡ Buffer.Whole → ⊥ }
         requires no_key { HoldsNoKey self.old.buffer }
         ensures notes { (C : Table) (asked : Bool) (h : Noted) → HoldsNoted C asked self.old h →
-            HoldsNoted C asked self.new (ended h) }
+            HoldsNoted C asked self.new (with_string_ended h) }
         ensures id { self.new.request_id ≡ self.old.request_id }
         ensures last { self.new.last ≡ self.old.last }
         ensures no_key { HoldsNoKey self.new.buffer }
@@ -206,18 +206,18 @@ impl Notes {
     #[inline(always)]
     fn note_piece(&mut self, held: &[u8], rest: &[u8], more: bool)
         ensures notes { (C : Table) (asked : Bool) (h : Noted) → HoldsNoted C asked self.old h →
-            HoldsNoted C asked self.new (noted_piece h (held.now ++ rest.now) more) }
+            HoldsNoted C asked self.new (note_string_piece h (held.now ++ rest.now) more) }
         ensures id { self.new.request_id ≡ self.old.request_id }
         ensures last { self.new.last ≡ self.old.last }
         ensures no_key { HoldsNoKey self.new.buffer }
     {
-        self.forget();
+        self.forget_name();
         if !held.is_empty() {
-            self.extend(held);
+            self.extend_string(held);
         }
-        self.extend(rest);
+        self.extend_string(rest);
         if !more {
-            self.end();
+            self.end_string();
         }
     }
 
@@ -225,7 +225,7 @@ impl Notes {
     fn may_have_key(&self) -> bool
         ensures is { (C : Table) (asked : Bool) (h : Noted) → HoldsNoted C asked self.now h →
             result ≡ may_have_key h }
-        ensures key { IsTrue result → IsForKey self.now }
+        ensures key { IsTrue result → MayNoteKey self.now }
     {
         let no_string = match self.buffer {
             Buffer::Begun => self.name.is_empty(),
@@ -247,7 +247,7 @@ impl Notes {
     fn note_key(&mut self, catalogue: &SeenCatalogue<'_>, held: &[u8], rest: &[u8], more: bool)
         requires { has_keys catalogue.now ≡ true }
         ensures notes { (asked : Bool) (h : Noted) → HoldsNoted catalogue.now asked self.old h →
-            HoldsNoted catalogue.now asked self.new (noted_key h (held.now ++ rest.now) more) }
+            HoldsNoted catalogue.now asked self.new (note_key_piece h (held.now ++ rest.now) more) }
         ensures id { self.new.request_id ≡ self.old.request_id }
         ensures interface { IfSome (interface_of self.old.last)
             (λ i. i.0 < length catalogue.now.interfaces.names) →
@@ -266,13 +266,13 @@ impl Notes {
 
     /// Notes octets of an object key whose end is to come.
     fn extend_key(&mut self, octets: &[u8])
-        requires { IsForKey self.old }
+        requires { MayNoteKey self.old }
         ensures notes { (C : Table) (asked : Bool) (h : Noted) → has_keys C ≡ true →
             HoldsNoted C asked self.old h →
             HoldsNoted C asked self.new (with_key_piece h octets.now) }
         ensures id { self.new.request_id ≡ self.old.request_id }
         ensures last { self.new.last ≡ Last.Nothing }
-        ensures key { IsForKey self.new }
+        ensures key { MayNoteKey self.new }
         ensures begun { self.new.buffer ≡ Buffer.Begun → ⊥ }
     {
         self.last = Last::Nothing;
@@ -293,11 +293,11 @@ impl Notes {
     /// is noted if it has one.
     fn end_key(&mut self, catalogue: &SeenCatalogue<'_>)
         requires keys { has_keys catalogue.now ≡ true }
-        requires key { IsForKey self.old }
+        requires key { MayNoteKey self.old }
         requires begun { self.old.buffer ≡ Buffer.Begun → ⊥ }
         requires last { self.old.last ≡ Last.Nothing }
         ensures notes { (asked : Bool) (h : Noted) → HoldsNoted catalogue.now asked self.old h →
-            HoldsNoted catalogue.now asked self.new (key_ended h) }
+            HoldsNoted catalogue.now asked self.new (with_key_ended h) }
         ensures id { self.new.request_id ≡ self.old.request_id }
         ensures interface { IfSome (interface_of self.new.last)
             (λ i. i.0 < length catalogue.now.interfaces.names) }
@@ -320,8 +320,8 @@ impl Notes {
             (is : IsNumberOf (tree_at catalogue.now n t.0) number) →
             HoldsNoted catalogue.now asked self.old h → HoldsNoted catalogue.now asked self.new
             (note_value false h (results.Number is.scalar is.n)) }
-        ensures of_root { (root : PathRoot) → AreOfRoot catalogue.now root self.old →
-            AreOfRoot catalogue.now root self.new }
+        ensures of_root { (root : PathRoot) → NotesFitRoot catalogue.now root self.old →
+            NotesFitRoot catalogue.now root self.new }
     {
         let Number::Unsigned(n) = number else {
             return;
@@ -353,8 +353,8 @@ impl Notes {
             && is_member (codes "request_id") path) h (results.Number is.scalar is.n))
             (expects_after (is_header_root root) path (results.Number is.scalar is.n)
             h.expects_reply))) }
-        ensures of_root { AreOfRoot catalogue.now root self.old →
-            AreOfRoot catalogue.now root self.new }
+        ensures of_root { NotesFitRoot catalogue.now root self.old →
+            NotesFitRoot catalogue.now root self.new }
     {
         match catalogue.shape(of) {
             Shape::Prim(Prim::ULong) => {
@@ -400,16 +400,16 @@ impl Notes {
         requires room { length outer.now < 24 }
         requires has_output { HasOutput (tree_in catalogue.now outer.now finished.of.0)
             finished.output }
-        ensures of_root { AreOfRoot catalogue.now root self.old →
-            AreOfRoot catalogue.now root self.new }
+        ensures of_root { NotesFitRoot catalogue.now root self.old →
+            NotesFitRoot catalogue.now root self.new }
         ensures notes { (asked : Bool) (h : Noted) (here at : ℕ) (lines : List ValueAt) →
             HoldsNoted catalogue.now asked self.old h →
-            Finishes catalogue.now outer.now finished.entry here at lines →
+            AreFinishedLines catalogue.now outer.now finished.entry here at lines →
             HoldsNoted catalogue.now asked self.new
             (without_name_if (clears_name finished.entry.output)
-            (noted (is_header_root root) h lines)) }
+            (note_lines (is_header_root root) h lines)) }
         ensures named { (here at : ℕ) (lines : List ValueAt) →
-            Finishes catalogue.now outer.now finished.entry here at lines →
+            AreFinishedLines catalogue.now outer.now finished.entry here at lines →
             result ≡ names_operation (is_header_root root) lines }
     {
         match finished.output {
@@ -418,7 +418,7 @@ impl Notes {
             Output::Size(_) => false,
             Output::Ordered(_) => false,
             Output::Length => {
-                self.forget();
+                self.forget_name();
                 false
             }
             Output::Number(number) => {
@@ -435,7 +435,7 @@ impl Notes {
                     !more && is_header_member(catalogue, root, outer, b"operation")
                 }
                 Shape::Octets(_) => {
-                    if catalogue.has_keys() && is_key(catalogue, root, outer) {
+                    if catalogue.has_keys() && is_object_key(catalogue, root, outer) {
                         self.note_key(catalogue, finished.held, finished.rest, more);
                     }
                     false
@@ -495,7 +495,7 @@ fn is_member(catalogue: &SeenCatalogue<'_>, outer: &[Frame], name: &[u8]) -> boo
 }
 
 /// Whether the innermost part is the object key of a header.
-fn is_key(catalogue: &SeenCatalogue<'_>, root: Root, outer: &[Frame]) -> bool
+fn is_object_key(catalogue: &SeenCatalogue<'_>, root: Root, outer: &[Frame]) -> bool
     requires { AreKnown catalogue.now outer.now }
     ensures is { (here : ℕ) → result ≡ (is_header_root root
         && is_key_path (path_in [] (open_parts catalogue.now here outer.now))) }

@@ -5,7 +5,7 @@ ghost use Rattle.std.specs.Prelude.{◌≡◌, ℕ, ◌+◌, ◌-◌, ◌<◌, �
 ghost use Rattle.giop_cdr.specs.Primitives.{size_of};
 ghost use Rattle.giop_decode.specs.SeenState.{Fits};
 ghost use Rattle.giop_decode.specs.Noted.{is_header_root};
-ghost use Rattle.giop_decode.specs.NextParts.{IsPartAhead, IsNextNumber, IsAtNext, front_text};
+ghost use Rattle.giop_decode.specs.NextParts.{IsPartAhead, IsNextPrimitive, IsAtNextPart, front_text};
 ghost use Rattle.giop_decode.specs.Runs.{TakesSome};
 ghost use Rattle.giop_decode.specs.Segments.{frame_text, frames_text};
 ghost use Rattle.giop_decode.specs.Transitions.{AreKnown, IsKnown};
@@ -21,7 +21,7 @@ use crate::leaf::{Leaf, Output, Step, Transition};
 use crate::lookahead::{Lookahead, whole_number};
 use crate::notes::is_header;
 use crate::progress::Progress;
-use crate::run::further;
+use crate::run::phase_after;
 use giop_cdr::{Number, Prim};
 use giop_print::{Head, Line, Out, OutFault, line_behind, put_number_end};
 use giop_sig::{SeenCatalogue, Shape, TypeId};
@@ -50,7 +50,12 @@ impl Decoder {
     /// Whether the number that comes next is a primitive and a part of a part of which three parts
     /// are to come, and there are octets for more than one. False in a header.
     #[inline(always)]
-    pub(crate) fn has_parts(&self, catalogue: &SeenCatalogue<'_>, of: TypeId, octets: &[u8]) -> bool
+    pub(crate) fn has_number_run(
+        &self,
+        catalogue: &SeenCatalogue<'_>,
+        of: TypeId,
+        octets: &[u8],
+    ) -> bool
         requires fits { Fits catalogue.now self.now }
         requires leaf { self.now.leaf ≡ Some (Leaf.Number of) }
         ensures some { IsTrue result → 0 < length self.now.outer.items }
@@ -74,7 +79,7 @@ impl Decoder {
     /// there, as long as each is a part and another part comes after it, and the number after them.
     /// Writes their lines.
     #[inline(never)]
-    pub(crate) fn take_parts<O: Out>(
+    pub(crate) fn take_number_run<O: Out>(
         &mut self,
         catalogue: &SeenCatalogue<'_>,
         octets: &[u8],
@@ -90,14 +95,14 @@ impl Decoder {
     {
         let mut line = Line::new();
         if !self.put_front_of_parts(catalogue, &mut line) {
-            return self.take_one(catalogue, octets, out);
+            return self.take_one_unit(catalogue, octets, out);
         }
-        self.take_several(catalogue, octets, &line, out)
+        self.write_parts(catalogue, octets, &line, out)
     }
 
     /// The same, after what their lines begin with was spelled.
     #[inline(always)]
-    fn take_several<O: Out>(
+    fn write_parts<O: Out>(
         &mut self,
         catalogue: &SeenCatalogue<'_>,
         octets: &[u8],
@@ -116,17 +121,19 @@ impl Decoder {
         let mut line = Line::new();
         let mut taken = 0;
         while let Some(part) = self.part_ahead(catalogue, &octets[taken..]) {
-            let Some(next) = self.next_number(catalogue, part) else {
-                let (last, progress) = self.take_last(catalogue, part, front, &mut line, out)?;
+            let Some(next) = self.next_primitive(catalogue, part) else {
+                let (last, progress) = self.write_last_part(
+                    catalogue, part, front, &mut line, out,
+                )?;
                 return Ok((taken + last, progress));
             };
-            let (count, _) = self.take_part(catalogue, part, next, front, &mut line, out)?;
+            let (count, _) = self.write_part(catalogue, part, next, front, &mut line, out)?;
             taken += count;
         }
         if taken == octets.len() {
             return Ok((taken, Progress::More));
         }
-        let (rest, progress) = self.take_one(catalogue, &octets[taken..], out)?;
+        let (rest, progress) = self.take_one_unit(catalogue, &octets[taken..], out)?;
         Ok((taken + rest, progress))
     }
 
@@ -169,7 +176,7 @@ impl Decoder {
     /// Takes the octets of that number, if another number comes after it, and writes its line. The
     /// front of the line is spelled.
     #[inline(always)]
-    fn take_part<O: Out>(
+    fn write_part<O: Out>(
         &mut self,
         catalogue: &SeenCatalogue<'_>,
         part: PartAhead<'_>,
@@ -181,16 +188,16 @@ impl Decoder {
         requires fits { Fits catalogue.now self.old }
         requires body { is_header_root self.old.head.root ≡ false }
         requires ahead { IsPartAhead catalogue.now self.old part }
-        requires next { IsNextNumber catalogue.now part.frame next }
+        requires next { IsNextPrimitive catalogue.now part.frame next }
         requires front { line_text front.now ≡ front_text catalogue.now self.old }
         requires short { length (line_text front.now) ≤ 128 }
         ensures takes { TakesSome catalogue.now self.old self.new part.entry.octets.now
             (O.log out.old) (O.log out.new) result }
         ensures more { IfOk result (λ taken. taken.1 ≡ Progress.More) }
-        ensures next { OnOk result (IsAtNext catalogue.now self.old self.new part.entry next) }
+        ensures next { OnOk result (IsAtNextPart catalogue.now self.old self.new part.entry next) }
     {
         part_line(catalogue, part, front, line, out)?;
-        self.at = further(self.at, part.count);
+        self.at = phase_after(self.at, part.count);
         go_to_next(&mut self.outer);
         self.leaf = Some(Leaf::Number(next));
         Ok((part.count, Progress::More))
@@ -199,7 +206,7 @@ impl Decoder {
     /// Takes the octets of that number, which may be the last part, and writes its line. The front
     /// of the line is spelled.
     #[inline(always)]
-    fn take_last<O: Out>(
+    fn write_last_part<O: Out>(
         &mut self,
         catalogue: &SeenCatalogue<'_>,
         part: PartAhead<'_>,
@@ -216,7 +223,7 @@ impl Decoder {
             (O.log out.old) (O.log out.new) result }
     {
         part_line(catalogue, part, front, line, out)?;
-        self.at = further(self.at, part.count);
+        self.at = phase_after(self.at, part.count);
         let ahead = Lookahead {
             of: part.of,
             count: part.count,
@@ -226,16 +233,16 @@ impl Decoder {
             },
             rest: &[],
         };
-        let progress = self.pass(catalogue, ahead);
+        let progress = self.note_and_advance(catalogue, ahead);
         Ok((part.count, progress))
     }
 
     /// The type of the part after that number, if it is a primitive.
     #[inline(always)]
-    fn next_number(&self, catalogue: &SeenCatalogue<'_>, part: PartAhead<'_>) -> Option<TypeId>
+    fn next_primitive(&self, catalogue: &SeenCatalogue<'_>, part: PartAhead<'_>) -> Option<TypeId>
         requires fits { Fits catalogue.now self.now }
         requires ahead { IsPartAhead catalogue.now self.now part }
-        ensures { IfSome result (λ next. IsNextNumber catalogue.now part.entry.frame next) }
+        ensures { IfSome result (λ next. IsNextPrimitive catalogue.now part.entry.frame next) }
     {
         let frame = part.frame;
         if frame.index >= frame.count.saturating_sub(1) {

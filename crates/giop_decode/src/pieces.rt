@@ -3,7 +3,7 @@
 
 ghost use Rattle.std.specs.Prelude.{◌≡◌, ℕ, ◌<◌, ◌≤◌, false, true, List, [], length, take, codes, IfOk, IfSome, IsTrue, OnOk};
 ghost use Rattle.giop_decode.specs.SeenState.{Fits};
-ghost use Rattle.giop_decode.specs.NextPieces.{IsQuiet, IsPieceAhead, behind_piece, path_front};
+ghost use Rattle.giop_decode.specs.NextPieces.{NotesNoOctets, IsPieceAhead, decoder_after_piece, path_front};
 ghost use Rattle.giop_decode.specs.Runs.{TakesSome};
 ghost use Rattle.giop_print.specs.Line.{headed, line_text};
 ghost use Rattle.giop_print.specs.Lines.{content_line, more_word, spaced_hex};
@@ -44,9 +44,9 @@ impl Decoder {
     /// Whether all octets of two full pieces of an octet sequence come at the front of these, more
     /// of the sequence comes after them, and it isn't noted.
     #[inline(always)]
-    pub(crate) fn has_pieces(&self, catalogue: &SeenCatalogue<'_>, octets: &[u8]) -> bool
+    pub(crate) fn has_piece_run(&self, catalogue: &SeenCatalogue<'_>, octets: &[u8]) -> bool
         requires { Fits catalogue.now self.now }
-        ensures quiet { IsTrue result → IsQuiet catalogue.now self.now.head.root }
+        ensures quiet { IsTrue result → NotesNoOctets catalogue.now self.now.head.root }
     {
         let Some(piece) = self.next_piece(catalogue, octets) else {
             return false;
@@ -54,13 +54,13 @@ impl Decoder {
         if (piece.total - piece.offset) as usize <= RUN || octets.len() < RUN {
             return false;
         }
-        self.is_quiet(catalogue)
+        self.notes_no_octets(catalogue)
     }
 
     /// Whether octet sequences aren't noted: this isn't a header, or no object key has an
     /// interface.
-    fn is_quiet(&self, catalogue: &SeenCatalogue<'_>) -> bool
-        ensures { IsTrue result → IsQuiet catalogue.now self.now.head.root }
+    fn notes_no_octets(&self, catalogue: &SeenCatalogue<'_>) -> bool
+        ensures { IsTrue result → NotesNoOctets catalogue.now self.now.head.root }
     {
         !(is_header(self.head.root()) && catalogue.has_keys())
     }
@@ -68,7 +68,7 @@ impl Decoder {
     /// Takes some of the octets, which are at least one: full pieces of an octet sequence whose
     /// octets are all there, and some of what comes after them. Writes their lines.
     #[inline(never)]
-    pub(crate) fn take_pieces<O: Out>(
+    pub(crate) fn take_piece_run<O: Out>(
         &mut self,
         catalogue: &SeenCatalogue<'_>,
         octets: &[u8],
@@ -76,7 +76,7 @@ impl Decoder {
     ) -> Result<(usize, Progress), OutFault>
         requires fits { Fits catalogue.now self.old }
         requires octets { 0 < length octets.now }
-        requires quiet { IsQuiet catalogue.now self.old.head.root }
+        requires quiet { NotesNoOctets catalogue.now self.old.head.root }
         requires outside { self.old.inside ≡ Within.Nothing }
         ensures { TakesSome catalogue.now self.old self.new octets.now
             (O.log out.old) (O.log out.new) result }
@@ -84,14 +84,14 @@ impl Decoder {
         let mut line = Line::new();
         let front = put_front(catalogue, &self.head, self.outer.as_slice(), &mut line);
         if !front || line.text().len() > FRONT {
-            return self.take_one(catalogue, octets, out);
+            return self.take_one_unit(catalogue, octets, out);
         }
-        self.take_full(catalogue, octets, &line, out)
+        self.write_pieces(catalogue, octets, &line, out)
     }
 
     /// The same, after what their lines begin with was spelled.
     #[inline(always)]
-    fn take_full<O: Out>(
+    fn write_pieces<O: Out>(
         &mut self,
         catalogue: &SeenCatalogue<'_>,
         octets: &[u8],
@@ -100,7 +100,7 @@ impl Decoder {
     ) -> Result<(usize, Progress), OutFault>
         requires fits { Fits catalogue.now self.old }
         requires octets { 0 < length octets.now }
-        requires quiet { IsQuiet catalogue.now self.old.head.root }
+        requires quiet { NotesNoOctets catalogue.now self.old.head.root }
         requires outside { self.old.inside ≡ Within.Nothing }
         requires front { line_text front.now ≡ path_front catalogue.now self.old }
         requires short { length (line_text front.now) ≤ 89 }
@@ -110,13 +110,13 @@ impl Decoder {
         let mut line = Line::new();
         let mut taken = 0;
         while let Some(piece) = self.next_piece(catalogue, &octets[taken..]) {
-            let (count, _) = self.take_piece(catalogue, piece, front, &mut line, out)?;
+            let (count, _) = self.write_piece(catalogue, piece, front, &mut line, out)?;
             taken += count;
         }
         if taken == octets.len() {
             return Ok((taken, Progress::More));
         }
-        let (rest, progress) = self.take_one(catalogue, &octets[taken..], out)?;
+        let (rest, progress) = self.take_one_unit(catalogue, &octets[taken..], out)?;
         Ok((taken + rest, progress))
     }
 
@@ -154,7 +154,7 @@ impl Decoder {
 
     /// Takes the octets of that piece, and writes its line. The front of the line is spelled.
     #[inline(always)]
-    fn take_piece<O: Out>(
+    fn write_piece<O: Out>(
         &mut self,
         catalogue: &SeenCatalogue<'_>,
         piece: PieceAhead<'_>,
@@ -164,14 +164,14 @@ impl Decoder {
     ) -> Result<(usize, Progress), OutFault>
         requires fits { Fits catalogue.now self.old }
         requires ahead { IsPieceAhead catalogue.now self.old piece }
-        requires quiet { IsQuiet catalogue.now self.old.head.root }
+        requires quiet { NotesNoOctets catalogue.now self.old.head.root }
         requires outside { self.old.inside ≡ Within.Nothing }
         requires front { line_text front.now ≡ path_front catalogue.now self.old }
         requires short { length (line_text front.now) ≤ 89 }
         ensures takes { TakesSome catalogue.now self.old self.new piece.entry.octets.now
             (O.log out.old) (O.log out.new) result }
         ensures more { IfOk result (λ taken. taken.1 ≡ Progress.More) }
-        ensures next { OnOk result (self.new ≡ behind_piece self.old piece.entry) }
+        ensures next { OnOk result (self.new ≡ decoder_after_piece self.old piece.entry) }
     {
         piece_line(piece, front, line, out)?;
         self.leaf = Some(Leaf::Content {

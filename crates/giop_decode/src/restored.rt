@@ -13,13 +13,13 @@ ghost use Rattle.giop_decode.specs.declared.notes.Last.{Last as LastState};
 ghost use Rattle.giop_decode.specs.declared.notes.Notes.{Notes as NotesState};
 ghost use Rattle.giop_decode.specs.DecoderState.{Fits, IsOfVersion, Reads};
 ghost use Rattle.giop_decode.specs.ReadResult.{Coding};
-ghost use Rattle.giop_decode.specs.Stored.{narrow_octet, order_octet, root_octet, leaf_octets, buffer_octet, last_octets, expects_octet, notes_octets, inside_octet, told_octet, frame_octets, frames_octets, frame_size, FrameHasRange, LeafHasRange, LastHasRange, NotesHaveRange, Stored, IsKept, IsRestored};
+ghost use Rattle.giop_decode.specs.Stored.{saved_forbids_wide, saved_order, saved_root, saved_leaf, saved_buffer, saved_last, saved_expects_reply, saved_notes, saved_inside, saved_stage, saved_frame, saved_frames, frame_size, FrameHasRange, LeafHasRange, LastHasRange, NotesHaveRange, Stored, AreSavedNotes, IsRestored};
 ghost use Rattle.giop_print.specs.declared.path.Root.{Root as PathRoot};
 ghost use Rattle.giop_sig.specs.Table.{Table};
 ghost use Rattle.giop_sig.specs.Types.{Ty};
 
 use crate::decoder::Decoder;
-use crate::frame::{Frame, Stage, Within, is_inside};
+use crate::frame::{Frame, Stage, Within, within_of};
 use crate::leaf::Leaf;
 use crate::notes::{Buffer, Last, Notes};
 use crate::stored::FRAME_SIZE;
@@ -51,14 +51,14 @@ impl Decoder {
             Reads catalogue.now T coding at message root d s →
             Reads catalogue.now T coding at message root e s) }
     {
-        let narrow = catalogue.is_narrow(minor);
-        let seen = catalogue.seen(narrow);
+        let forbids_wide = catalogue.is_narrow(minor);
+        let seen = catalogue.seen(forbids_wide);
         seen.laws();
-        let decoder = parsed(fixed, frames);
-        if decoder.narrow != narrow {
+        let decoder = unchecked_decoder(fixed, frames);
+        if decoder.forbids_wide != forbids_wide {
             return None;
         }
-        if !decoder.chains(&seen) {
+        if !decoder.fits_catalogue(&seen) {
             return None;
         }
         if !decoder.is_stored_as(fixed, frames) {
@@ -77,37 +77,37 @@ impl Decoder {
         let mut fixed_again = [0; 208];
         let mut frames_again = [0; 576];
         let count = usize::from(self.store(&mut fixed_again, &mut frames_again));
-        if !same(&fixed_again, fixed) {
+        if !same_octets(&fixed_again, fixed) {
             return false;
         }
-        same(&frames_again[..FRAME_SIZE * count], frames)
+        same_octets(&frames_again[..FRAME_SIZE * count], frames)
     }
 }
 
 /// Whether octets are the same.
-fn same(octets: &[u8], others: &[u8]) -> bool
+fn same_octets(octets: &[u8], others: &[u8]) -> bool
     ensures { IsTrue result ↔ (octets.now ≡ others.now) }
 {
     octets == others
 }
 
 /// The decoder that octets stand for, unchecked.
-fn parsed(fixed: &[u8; 208], frames: &[u8]) -> Decoder
+fn unchecked_decoder(fixed: &[u8; 208], frames: &[u8]) -> Decoder
     ensures { (d : State) → Stored d fixed.now frames.now → IsRestored d result }
 {
     let root = root_at(fixed, 1);
     let carry: ArrayVec<u8, 8> = held_at(fixed, 24);
     let outer = outer_at(frames);
-    let inside = is_inside(Within::Telling, outer.as_slice());
+    let inside = within_of(Within::Telling, outer.as_slice());
     Decoder {
         order: order_at(fixed, 0),
         head: Head::new(eight_at(fixed, 2), root),
         at: octet_at(fixed, 10),
-        narrow: narrow_at(fixed, 207),
+        forbids_wide: forbids_wide_at(fixed, 207),
         outer,
         inside,
         leaf: Some(leaf_at(fixed, 11)),
-        carry: carried(carry.as_slice()),
+        carry: carry_of(carry.as_slice()),
         piece: held_at(fixed, 33),
         notes: notes_at(fixed, 66),
     }
@@ -116,7 +116,7 @@ fn parsed(fixed: &[u8; 208], frames: &[u8]) -> Decoder
 /// The byte order that is stored at this index.
 fn order_at(octets: &[u8], at: usize) -> Order
     requires room { at < length octets.now }
-    ensures { (order : ByteOrder) (rest : List ℕ) → drop at octets.now ≡ order_octet order ∷ rest →
+    ensures { (order : ByteOrder) (rest : List ℕ) → drop at octets.now ≡ saved_order order ∷ rest →
         result ≡ order }
 {
     match octet_at(octets, at) {
@@ -126,10 +126,10 @@ fn order_at(octets: &[u8], at: usize) -> Order
 }
 
 /// Whether anys and recursive sequences can't hold wide text, as stored at this index.
-fn narrow_at(octets: &[u8], at: usize) -> bool
+fn forbids_wide_at(octets: &[u8], at: usize) -> bool
     requires room { at < length octets.now }
-    ensures { (narrow : Bool) (rest : List ℕ) → drop at octets.now ≡ narrow_octet narrow ∷ rest →
-        result ≡ narrow }
+    ensures { (forbids_wide : Bool) (rest : List ℕ) → drop at octets.now
+        ≡ saved_forbids_wide forbids_wide ∷ rest → result ≡ forbids_wide }
 {
     octet_at(octets, at) != 0
 }
@@ -137,7 +137,7 @@ fn narrow_at(octets: &[u8], at: usize) -> bool
 /// The root that is stored at this index.
 fn root_at(octets: &[u8], at: usize) -> Root
     requires room { at < length octets.now }
-    ensures { (root : PathRoot) (rest : List ℕ) → drop at octets.now ≡ root_octet root ∷ rest →
+    ensures { (root : PathRoot) (rest : List ℕ) → drop at octets.now ≡ saved_root root ∷ rest →
         result ≡ root }
 {
     match octet_at(octets, at) {
@@ -151,7 +151,7 @@ fn root_at(octets: &[u8], at: usize) -> Root
 fn leaf_at(octets: &[u8], at: usize) -> Leaf
     requires room { at + 13 ≤ length octets.now }
     ensures { (leaf : Innermost) (rest : List ℕ) → LeafHasRange leaf →
-        drop at octets.now ≡ leaf_octets leaf ++ rest → result ≡ leaf }
+        drop at octets.now ≡ saved_leaf leaf ++ rest → result ≡ leaf }
 {
     let of = TypeId(four_at(octets, at + 1));
     let tag = octet_at(octets, at);
@@ -170,7 +170,7 @@ fn leaf_at(octets: &[u8], at: usize) -> Leaf
 }
 
 /// A carry with these octets.
-fn carried(octets: &[u8]) -> Carry
+fn carry_of(octets: &[u8]) -> Carry
     requires { length octets.now ≤ 8 }
     ensures { result ≡ octets.now }
 {
@@ -185,7 +185,7 @@ fn carried(octets: &[u8]) -> Carry
 fn notes_at(octets: &[u8], at: usize) -> Notes
     requires room { at + 141 ≤ length octets.now }
     ensures { (notes : NotesState) (rest : List ℕ) → NotesHaveRange notes →
-        drop at octets.now ≡ notes_octets notes ++ rest → IsKept notes result }
+        drop at octets.now ≡ saved_notes notes ++ rest → AreSavedNotes notes result }
 {
     Notes {
         request_id: optional_at(octets, at),
@@ -200,7 +200,7 @@ fn notes_at(octets: &[u8], at: usize) -> Notes
 fn last_at(octets: &[u8], at: usize) -> Last
     requires room { at + 5 ≤ length octets.now }
     ensures { (last : LastState) (rest : List ℕ) → LastHasRange last →
-        drop at octets.now ≡ last_octets last ++ rest → result ≡ last }
+        drop at octets.now ≡ saved_last last ++ rest → result ≡ last }
 {
     let tag = octet_at(octets, at);
     if tag == 0 {
@@ -217,7 +217,7 @@ fn last_at(octets: &[u8], at: usize) -> Last
 fn expects_at(octets: &[u8], at: usize) -> Option<bool>
     requires room { at < length octets.now }
     ensures { (expects_reply : Option Bool) (rest : List ℕ) →
-        drop at octets.now ≡ expects_octet expects_reply ∷ rest →
+        drop at octets.now ≡ saved_expects_reply expects_reply ∷ rest →
         result ≡ expects_reply }
 {
     match octet_at(octets, at) {
@@ -231,7 +231,7 @@ fn expects_at(octets: &[u8], at: usize) -> Option<bool>
 fn buffer_at(octets: &[u8], at: usize) -> Buffer
     requires room { at < length octets.now }
     ensures { (buffer : BufferState) (rest : List ℕ) →
-        drop at octets.now ≡ buffer_octet buffer ∷ rest →
+        drop at octets.now ≡ saved_buffer buffer ∷ rest →
         result ≡ buffer }
 {
     match octet_at(octets, at) {
@@ -246,7 +246,7 @@ fn buffer_at(octets: &[u8], at: usize) -> Buffer
 /// The frames that are stored in octets, without the last, which is that of the innermost part.
 fn outer_at(octets: &[u8]) -> ArrayVec<Frame, 24>
     ensures { (frames : List FrameState) (own : FrameState) → AllByRecursion FrameHasRange frames →
-        length frames < 24 → octets.now ≡ frames_octets (frames ++ own ∷ []) →
+        length frames < 24 → octets.now ≡ saved_frames (frames ++ own ∷ []) →
         result.items ≡ frames }
 {
     let mut outer = ArrayVec::new();
@@ -263,22 +263,22 @@ fn outer_at(octets: &[u8]) -> ArrayVec<Frame, 24>
 fn frame_at(octets: &[u8]) -> Frame
     requires { frame_size ≤ length octets.now }
     ensures { (frame : FrameState) (rest : List ℕ) → FrameHasRange frame →
-        octets.now ≡ frame_octets frame ++ rest → result ≡ frame }
+        octets.now ≡ saved_frame frame ++ rest → result ≡ frame }
 {
     Frame {
         of: TypeId(four_at(octets, 0)),
         index: four_at(octets, 4),
         count: four_at(octets, 8),
         inside: inside_at(octets, 12),
-        told: told_at(octets, 13),
+        told: stage_at(octets, 13),
     }
 }
 
 /// What was told in a frame, as stored at this index, if something was.
-fn told_at(octets: &[u8], at: usize) -> Option<Stage>
+fn stage_at(octets: &[u8], at: usize) -> Option<Stage>
     requires room { at < length octets.now }
     ensures { (told : Option StageState) (rest : List ℕ) →
-        drop at octets.now ≡ told_octet told ∷ rest → result ≡ told }
+        drop at octets.now ≡ saved_stage told ∷ rest → result ≡ told }
 {
     match octet_at(octets, at) {
         0 => None,
@@ -295,7 +295,7 @@ fn told_at(octets: &[u8], at: usize) -> Option<Stage>
 fn inside_at(octets: &[u8], at: usize) -> Option<Order>
     requires room { at < length octets.now }
     ensures { (inside : Option ByteOrder) (rest : List ℕ) →
-        drop at octets.now ≡ inside_octet inside ∷ rest →
+        drop at octets.now ≡ saved_inside inside ∷ rest →
         result ≡ inside }
 {
     match octet_at(octets, at) {

@@ -4,19 +4,21 @@ ghost use Rattle.std.specs.Prelude.{◌≡◌, ℕ, ◌+◌, ◌-◌, ◌%◌, �
 ghost use Rattle.giop_decode.specs.declared.decoder.Decoder.{Decoder as Before};
 ghost use Rattle.giop_decode.specs.DecoderState.{Fits, GoesOn, IsDone, KeepsVersion, Reads, TakesRun};
 ghost use Rattle.giop_decode.specs.ReadResult.{Coding};
-ghost use Rattle.giop_decode.specs.Runs.{IsContent, IsHeldOf, IsParted, TakesSome, WritesRun, TakenTogether, TakesRun as TakesRunSeen};
+ghost use Rattle.giop_decode.specs.Runs.{IsContent, HasHeldTogether, LeavesPieceIncomplete, TakesSome, WritesRun, TakenTogether, TakesRun as TakesRunSeen};
 ghost use Rattle.giop_decode.specs.SeenState.{Fits as FitsSeen, Reads as ReadsSeen};
-ghost use Rattle.giop_decode.specs.Transitions.{HaveOctetsLeft, coding_by, ticked_by};
+ghost use Rattle.giop_decode.specs.Transitions.{HaveOctetsLeft, innermost_coding, frames_after_octets};
 ghost use Rattle.giop_print.specs.declared.path.Root.{Root as PathRoot};
 ghost use Rattle.giop_sig.specs.Types.{Ty};
 
 use crate::decoder::Decoder;
-use crate::encapsulation::take_order;
-use crate::frame::{Within, coding, pass_by, up_to_end};
-use crate::leading_numbers::{hold_number, take_count, take_length, take_size, take_value, width};
-use crate::leaf::{Finished, Leaf, Output, Step, Transition, ended, refused};
+use crate::encapsulation::order_step;
+use crate::frame::{Within, coding, count_and_tell, octets_to_end};
+use crate::leading_numbers::{
+    count_step, hold_number, leading_width, length_step, size_step, value_step,
+};
+use crate::leaf::{Finished, Leaf, Output, Step, Transition, ended_step, refused_step};
 use crate::lookahead::{
-    Lookahead, ahead_of, held, octets_behind, whole_long, whole_number, whole_octets,
+    Lookahead, held_ahead, lookahead_of, octets_after_piece, whole_long, whole_number, whole_octets,
 };
 use crate::progress::{Progress, ValueFault};
 use giop_cdr::Order;
@@ -52,12 +54,12 @@ impl Decoder {
         ensures version { IfOk result (λ taken. GoesOn taken.1 → KeepsVersion self.old self.new) }
         ensures done { IfOk result (λ taken. taken.1 ≡ Progress.Done → IsDone self.new) }
     {
-        self.take_octets(&catalogue.seen(self.narrow), octets, out)
+        self.read_octets(&catalogue.seen(self.forbids_wide), octets, out)
     }
 
     /// The same, with the catalogue as messages of the value's version see it.
     #[inline(always)]
-    fn take_octets<O: Out>(
+    fn read_octets<O: Out>(
         &mut self,
         catalogue: &SeenCatalogue<'_>,
         octets: &[u8],
@@ -108,7 +110,7 @@ impl Decoder {
             (O.log out.old) (O.log out.new) result }
     {
         if self.inside != Within::Nothing {
-            return self.take_one(catalogue, octets, out);
+            return self.take_one_unit(catalogue, octets, out);
         }
         let Some(leaf) = self.leaf else {
             unreachable!();
@@ -116,15 +118,15 @@ impl Decoder {
         let coded = (self.order, self.at);
         match leaf {
             Leaf::Number(of) => {
-                if self.has_parts(catalogue, of, octets) {
-                    return self.take_parts(catalogue, octets, out);
+                if self.has_number_run(catalogue, of, octets) {
+                    return self.take_number_run(catalogue, octets, out);
                 }
                 self.take_number(catalogue, coded, of, octets, out)
             }
-            Leaf::Opening { of, count } => self.take_opening(catalogue, of, count, octets, out),
+            Leaf::Opening { of, count } => self.read_order(catalogue, of, count, octets, out),
             Leaf::Content { .. } => {
-                if self.has_pieces(catalogue, octets) {
-                    return self.take_pieces(catalogue, octets, out);
+                if self.has_piece_run(catalogue, octets) {
+                    return self.take_piece_run(catalogue, octets, out);
                 }
                 self.take_content(catalogue, leaf, octets, out)
             }
@@ -133,7 +135,7 @@ impl Decoder {
 
     /// Takes the octet with the byte order of an encapsulation.
     #[inline(always)]
-    fn take_opening<O: Out>(
+    fn read_order<O: Out>(
         &mut self,
         catalogue: &SeenCatalogue<'_>,
         of: TypeId,
@@ -143,19 +145,20 @@ impl Decoder {
     ) -> Result<(usize, Progress), OutFault>
         requires fits { FitsSeen catalogue.now self.old }
         requires leaf { self.old.leaf ≡ Some (Leaf.Opening of count) }
-        requires ahead { HaveOctetsLeft (ticked_by (length octets.now - 1) self.old.outer.items) }
+        requires ahead { HaveOctetsLeft (frames_after_octets (length octets.now - 1)
+            self.old.outer.items) }
         requires some { 0 < length octets.now }
         ensures { TakesSome catalogue.now self.old self.new octets.now
             (O.log out.old) (O.log out.new) result }
     {
-        let step = take_order(catalogue, of, count, octets[0]);
-        self.take_ahead(catalogue, octets, ahead_of(of, 1, step, &[]), out)
+        let step = order_step(catalogue, of, count, octets[0]);
+        self.complete_unit(catalogue, octets, lookahead_of(of, 1, step, &[]), out)
     }
 
     /// Does what `take_some` does, but takes numbers and full pieces one at a time. It also takes
     /// octets within encapsulations, up to the end of one.
     #[inline(never)]
-    pub(crate) fn take_one<O: Out>(
+    pub(crate) fn take_one_unit<O: Out>(
         &mut self,
         catalogue: &SeenCatalogue<'_>,
         octets: &[u8],
@@ -167,14 +170,14 @@ impl Decoder {
             (O.log out.old) (O.log out.new) result }
     {
         let coded = coding(self.inside, self.order, self.at, self.outer.as_slice());
-        let near = up_to_end(self.inside, self.outer.as_slice(), octets);
-        self.take_unit(catalogue, coded, near, out)
+        let near = octets_to_end(self.inside, self.outer.as_slice(), octets);
+        self.take_unit_coded(catalogue, coded, near, out)
     }
 
     /// The same for octets with this byte order and alignment. No encapsulation ends before the
     /// last of them.
     #[inline(always)]
-    fn take_unit<O: Out>(
+    fn take_unit_coded<O: Out>(
         &mut self,
         catalogue: &SeenCatalogue<'_>,
         coded: (Order, u8),
@@ -182,8 +185,9 @@ impl Decoder {
         out: &mut O,
     ) -> Result<(usize, Progress), OutFault>
         requires fits { FitsSeen catalogue.now self.old }
-        requires coded { coding_by self.old.order self.old.at self.old.outer.items ≡ coded }
-        requires ahead { HaveOctetsLeft (ticked_by (length octets.now - 1) self.old.outer.items) }
+        requires coded { innermost_coding self.old.order self.old.at self.old.outer.items ≡ coded }
+        requires ahead { HaveOctetsLeft (frames_after_octets (length octets.now - 1)
+            self.old.outer.items) }
         requires some { 0 < length octets.now }
         ensures { TakesSome catalogue.now self.old self.new octets.now
             (O.log out.old) (O.log out.new) result }
@@ -193,7 +197,7 @@ impl Decoder {
         };
         match leaf {
             Leaf::Number(of) => self.take_number(catalogue, coded, of, octets, out),
-            Leaf::Opening { of, count } => self.take_opening(catalogue, of, count, octets, out),
+            Leaf::Opening { of, count } => self.read_order(catalogue, of, count, octets, out),
             Leaf::Content { .. } => self.take_content(catalogue, leaf, octets, out),
         }
     }
@@ -212,9 +216,10 @@ impl Decoder {
     ) -> Result<(usize, Progress), OutFault>
         requires fits { FitsSeen catalogue.now self.old }
         requires leaf { self.old.leaf ≡ Some (Leaf.Number of) }
-        requires coded { coding_by self.old.order self.old.at self.old.outer.items ≡ coded }
+        requires coded { innermost_coding self.old.order self.old.at self.old.outer.items ≡ coded }
         requires small { coded.1 < 8 }
-        requires ahead { HaveOctetsLeft (ticked_by (length octets.now - 1) self.old.outer.items) }
+        requires ahead { HaveOctetsLeft (frames_after_octets (length octets.now - 1)
+            self.old.outer.items) }
         requires some { 0 < length octets.now }
         ensures { TakesSome catalogue.now self.old self.new octets.now
             (O.log out.old) (O.log out.new) result }
@@ -224,42 +229,46 @@ impl Decoder {
             match catalogue.shape(of) {
                 Shape::Prim(_) => {
                     if let Some((count, number)) = whole_number(catalogue, order, at, of, octets) {
-                        let step = ended(Output::Number(number));
-                        let ahead = ahead_of(of, count, step, &[]);
-                        return self.take_ahead(catalogue, octets, ahead, out);
+                        let step = ended_step(Output::Number(number));
+                        let ahead = lookahead_of(of, count, step, &[]);
+                        return self.complete_unit(catalogue, octets, ahead, out);
                     }
                 }
                 Shape::Text(bound) => {
                     if let Some((count, n)) = whole_long(order, at, octets) {
-                        let step = take_length(catalogue, of, bound, n);
-                        let ahead = ahead_of(of, count, step, &[]);
-                        return self.take_ahead(catalogue, octets, ahead, out);
+                        let step = length_step(catalogue, of, bound, n);
+                        let ahead = lookahead_of(of, count, step, &[]);
+                        return self.complete_unit(catalogue, octets, ahead, out);
                     }
                 }
                 Shape::Octets(bound) => {
                     if let Some((count, n)) = whole_long(order, at, octets) {
-                        let step = take_size(catalogue, of, bound, n);
-                        let ahead = ahead_of(of, count, step, &[]);
-                        return self.take_ahead(catalogue, octets, ahead, out);
+                        let step = size_step(catalogue, of, bound, n);
+                        let ahead = lookahead_of(of, count, step, &[]);
+                        return self.complete_unit(catalogue, octets, ahead, out);
                     }
                 }
                 Shape::Sequence(bound) => {
                     if let Some((count, n)) = whole_long(order, at, octets) {
-                        let step = take_count(catalogue, of, bound, n);
-                        let ahead = ahead_of(of, count, step, &[]);
-                        return self.take_ahead(catalogue, octets, ahead, out);
+                        let step = count_step(catalogue, of, bound, n);
+                        let ahead = lookahead_of(of, count, step, &[]);
+                        return self.complete_unit(catalogue, octets, ahead, out);
                     }
                 }
                 _ => {
-                    if let Some((count, whole)) = whole_octets(width(catalogue, of), at, octets) {
-                        let step = take_value(catalogue, order, of, whole);
-                        let ahead = ahead_of(of, count, step, &[]);
-                        return self.take_ahead(catalogue, octets, ahead, out);
+                    if let Some((count, whole)) = whole_octets(
+                        leading_width(catalogue, of),
+                        at,
+                        octets,
+                    ) {
+                        let step = value_step(catalogue, order, of, whole);
+                        let ahead = lookahead_of(of, count, step, &[]);
+                        return self.complete_unit(catalogue, octets, ahead, out);
                     }
                 }
             }
         }
-        self.take_parted_number(catalogue, coded, of, octets, out)
+        self.gather_number(catalogue, coded, of, octets, out)
     }
 
     /// Takes the rest of a piece, if all its octets are there, with the zero after the last piece
@@ -275,7 +284,8 @@ impl Decoder {
         requires fits { FitsSeen catalogue.now self.old }
         requires leaf { self.old.leaf ≡ Some leaf }
         requires content { IsContent leaf }
-        requires ahead { HaveOctetsLeft (ticked_by (length octets.now - 1) self.old.outer.items) }
+        requires ahead { HaveOctetsLeft (frames_after_octets (length octets.now - 1)
+            self.old.outer.items) }
         requires some { 0 < length octets.now }
         ensures { TakesSome catalogue.now self.old self.new octets.now
             (O.log out.old) (O.log out.new) result }
@@ -285,9 +295,9 @@ impl Decoder {
         };
         let left = total.saturating_sub(offset) as usize;
         let size = left.min(32).saturating_sub(self.piece.len());
-        let behind = octets_behind(catalogue, of, left);
+        let behind = octets_after_piece(catalogue, of, left);
         if octets.len() < size + behind {
-            return self.take_parted_piece(catalogue, leaf, octets, out);
+            return self.gather_piece(catalogue, leaf, octets, out);
         }
         let rest = &octets[..size];
         let count = size + behind;
@@ -301,24 +311,24 @@ impl Decoder {
                 transition: Transition::More(next),
                 output: Output::Piece { offset, more: true },
             };
-            let ahead = ahead_of(of, count, step, rest);
-            return self.take_ahead(catalogue, octets, ahead, out);
+            let ahead = lookahead_of(of, count, step, rest);
+            return self.complete_unit(catalogue, octets, ahead, out);
         }
         if behind > 0 && octets[size] != 0 {
-            let ahead = ahead_of(of, count, refused(ValueFault::StringEnd), rest);
-            return self.take_ahead(catalogue, octets, ahead, out);
+            let ahead = lookahead_of(of, count, refused_step(ValueFault::StringEnd), rest);
+            return self.complete_unit(catalogue, octets, ahead, out);
         }
-        let step = ended(Output::Piece {
+        let step = ended_step(Output::Piece {
             offset,
             more: false,
         });
-        self.take_ahead(catalogue, octets, ahead_of(of, count, step, rest), out)
+        self.complete_unit(catalogue, octets, lookahead_of(of, count, step, rest), out)
     }
 
     /// Holds octets of the number that comes next. When the number is whole, it is taken from what
     /// is held.
     #[inline(always)]
-    fn take_parted_number<O: Out>(
+    fn gather_number<O: Out>(
         &mut self,
         catalogue: &SeenCatalogue<'_>,
         coded: (Order, u8),
@@ -328,20 +338,21 @@ impl Decoder {
     ) -> Result<(usize, Progress), OutFault>
         requires fits { FitsSeen catalogue.now self.old }
         requires leaf { self.old.leaf ≡ Some (Leaf.Number of) }
-        requires coded { coding_by self.old.order self.old.at self.old.outer.items ≡ coded }
-        requires ahead { HaveOctetsLeft (ticked_by (length octets.now - 1) self.old.outer.items) }
+        requires coded { innermost_coding self.old.order self.old.at self.old.outer.items ≡ coded }
+        requires ahead { HaveOctetsLeft (frames_after_octets (length octets.now - 1)
+            self.old.outer.items) }
         requires some { 0 < length octets.now }
         ensures { TakesSome catalogue.now self.old self.new octets.now
             (O.log out.old) (O.log out.new) result }
     {
-        let (count, progress) = self.take_parted_number_apart(catalogue, coded, of, octets, out)?;
+        let (count, progress) = self.gather_number_apart(catalogue, coded, of, octets, out)?;
         Ok((count, progress))
     }
 
     /// The same, not inlined. Its answer is set to zeros before the call, so it is called where few
     /// numbers are.
     #[inline(never)]
-    fn take_parted_number_apart<O: Out>(
+    fn gather_number_apart<O: Out>(
         &mut self,
         catalogue: &SeenCatalogue<'_>,
         coded: (Order, u8),
@@ -351,19 +362,25 @@ impl Decoder {
     ) -> Result<(usize, Progress), OutFault>
         requires fits { FitsSeen catalogue.now self.old }
         requires leaf { self.old.leaf ≡ Some (Leaf.Number of) }
-        requires coded { coding_by self.old.order self.old.at self.old.outer.items ≡ coded }
-        requires ahead { HaveOctetsLeft (ticked_by (length octets.now - 1) self.old.outer.items) }
+        requires coded { innermost_coding self.old.order self.old.at self.old.outer.items ≡ coded }
+        requires ahead { HaveOctetsLeft (frames_after_octets (length octets.now - 1)
+            self.old.outer.items) }
         requires some { 0 < length octets.now }
         ensures { TakesSome catalogue.now self.old self.new octets.now
             (O.log out.old) (O.log out.new) result }
     {
         let (order, at) = coded;
-        let width = width(catalogue, of);
+        let width = leading_width(catalogue, of);
         let count = hold_number(&mut self.carry, at, width, octets);
         if self.carry.len() < usize::from(width) {
-            return self.finish(catalogue, octets, held(of, count, Leaf::Number(of)), out);
+            return self.complete_held_unit(
+                catalogue,
+                octets,
+                held_ahead(of, count, Leaf::Number(of)),
+                out,
+            );
         }
-        let step = take_value(catalogue, order, of, self.carry.as_slice());
+        let step = value_step(catalogue, order, of, self.carry.as_slice());
         self.carry.clear();
         let ahead = Lookahead {
             of,
@@ -371,12 +388,12 @@ impl Decoder {
             step,
             rest: &[],
         };
-        self.finish(catalogue, octets, ahead, out)
+        self.complete_held_unit(catalogue, octets, ahead, out)
     }
 
     /// Holds octets of a piece of a content that isn't whole with them.
     #[inline(always)]
-    fn take_parted_piece<O: Out>(
+    fn gather_piece<O: Out>(
         &mut self,
         catalogue: &SeenCatalogue<'_>,
         leaf: Leaf,
@@ -385,20 +402,21 @@ impl Decoder {
     ) -> Result<(usize, Progress), OutFault>
         requires fits { FitsSeen catalogue.now self.old }
         requires leaf { self.old.leaf ≡ Some leaf }
-        requires ahead { HaveOctetsLeft (ticked_by (length octets.now - 1) self.old.outer.items) }
+        requires ahead { HaveOctetsLeft (frames_after_octets (length octets.now - 1)
+            self.old.outer.items) }
         requires some { 0 < length octets.now }
-        requires parted { IsParted catalogue.now self.old.outer.items leaf self.old.piece.items
-            (length octets.now) }
+        requires parted { LeavesPieceIncomplete catalogue.now self.old.outer.items leaf
+            self.old.piece.items (length octets.now) }
         ensures { TakesSome catalogue.now self.old self.new octets.now
             (O.log out.old) (O.log out.new) result }
     {
-        let (count, progress) = self.take_parted_piece_apart(catalogue, leaf, octets, out)?;
+        let (count, progress) = self.gather_piece_apart(catalogue, leaf, octets, out)?;
         Ok((count, progress))
     }
 
     /// The same, not inlined.
     #[inline(never)]
-    fn take_parted_piece_apart<O: Out>(
+    fn gather_piece_apart<O: Out>(
         &mut self,
         catalogue: &SeenCatalogue<'_>,
         leaf: Leaf,
@@ -407,22 +425,28 @@ impl Decoder {
     ) -> Result<(usize, Progress), OutFault>
         requires fits { FitsSeen catalogue.now self.old }
         requires leaf { self.old.leaf ≡ Some leaf }
-        requires ahead { HaveOctetsLeft (ticked_by (length octets.now - 1) self.old.outer.items) }
+        requires ahead { HaveOctetsLeft (frames_after_octets (length octets.now - 1)
+            self.old.outer.items) }
         requires some { 0 < length octets.now }
-        requires parted { IsParted catalogue.now self.old.outer.items leaf self.old.piece.items
-            (length octets.now) }
+        requires parted { LeavesPieceIncomplete catalogue.now self.old.outer.items leaf
+            self.old.piece.items (length octets.now) }
         ensures { TakesSome catalogue.now self.old self.new octets.now
             (O.log out.old) (O.log out.new) result }
     {
         match self.piece.try_extend_from_slice(octets) {
-            Ok(()) => self.finish(catalogue, octets, held(leaf.of(), octets.len(), leaf), out),
+            Ok(()) => self.complete_held_unit(
+                catalogue,
+                octets,
+                held_ahead(leaf.of(), octets.len(), leaf),
+                out,
+            ),
             Err(_) => unreachable!(),
         }
     }
 
     /// Takes octets ahead that belong together, and writes their line.
     #[inline(always)]
-    fn take_ahead<O: Out>(
+    fn complete_unit<O: Out>(
         &mut self,
         catalogue: &SeenCatalogue<'_>,
         octets: &[u8],
@@ -435,26 +459,26 @@ impl Decoder {
         ensures { TakesSome catalogue.now self.old self.new octets.now
             (O.log out.old) (O.log out.new) result }
     {
-        self.finish(catalogue, octets, ahead, out)
+        self.complete_held_unit(catalogue, octets, ahead, out)
     }
 
     /// The same, after those that are to be held were held.
     #[inline(always)]
-    fn finish<O: Out>(
+    fn complete_held_unit<O: Out>(
         &mut self,
         catalogue: &SeenCatalogue<'_>,
         octets: &[u8],
         ahead: Lookahead<'_>,
         out: &mut O,
     ) -> Result<(usize, Progress), OutFault>
-        requires { (d : Before) × IsHeldOf catalogue.now d self.old octets.now ahead.of
+        requires { (d : Before) × HasHeldTogether catalogue.now d self.old octets.now ahead.of
             ahead.count ahead.step ahead.rest.now }
-        ensures { (d : Before) → IsHeldOf catalogue.now d self.old octets.now ahead.entry.of
+        ensures { (d : Before) → HasHeldTogether catalogue.now d self.old octets.now ahead.entry.of
             ahead.entry.count ahead.entry.step ahead.entry.rest.now →
             TakesSome catalogue.now d self.new octets.now (O.log out.old) (O.log out.new) result }
     {
-        self.at = further(self.at, ahead.count);
-        pass_by(
+        self.at = phase_after(self.at, ahead.count);
+        count_and_tell(
             catalogue,
             self.inside,
             &mut self.outer,
@@ -466,14 +490,14 @@ impl Decoder {
                 rest: ahead.rest,
             },
         );
-        let progress = self.emit(catalogue, ahead, out)?;
+        let progress = self.write_and_advance(catalogue, ahead, out)?;
         Ok((ahead.count, progress))
     }
 }
 
 /// The phase after `count` more octets, modulo 8.
 #[inline]
-pub(crate) fn further(at: u8, count: usize) -> u8
+pub(crate) fn phase_after(at: u8, count: usize) -> u8
     requires { count < 2 ^ 63 }
     ensures { result ≡ (at + count) % 8 }
 {

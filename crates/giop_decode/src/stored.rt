@@ -4,7 +4,7 @@ ghost use Rattle.std.specs.Prelude.{◌≡◌, ◌+◌, ◌*◌, ◌<◌, ◌≤
 ghost use Rattle.std.specs.List.{AllByRecursion};
 ghost use Rattle.arrayvec.specs.ArrayVec.{array_vec_len};
 ghost use Rattle.giop_decode.specs.DecoderState.{Fits};
-ghost use Rattle.giop_decode.specs.Stored.{narrow_octet, order_octet, root_octet, leaf_octets, buffer_octet, last_octets, expects_octet, kept_name, notes_octets, fixed_octets, frame_size, inside_octet, told_octet, frame_octets, frames_octets, own_frame, FrameHasRange, LeafHasRange, LastHasRange, NotesHaveRange, HasRange, Stored};
+ghost use Rattle.giop_decode.specs.Stored.{saved_forbids_wide, saved_order, saved_root, saved_leaf, saved_buffer, saved_last, saved_expects_reply, saved_name, saved_notes, saved_fixed, frame_size, saved_inside, saved_stage, saved_frame, saved_frames, leaf_frame, FrameHasRange, LeafHasRange, LastHasRange, NotesHaveRange, HasRange, Stored};
 ghost use Rattle.giop_sig.specs.Table.{Table};
 ghost use Rattle.giop_sig.specs.Trees.{catalogue_depth};
 ghost use Rattle.giop_sig.specs.HeaderTypes.{IsTable};
@@ -53,26 +53,26 @@ impl Decoder {
     /// Writes the decoder's own octets.
     fn put_fixed(&self, out: &mut ArrayVec<u8, 208>, leaf: Leaf)
         requires { out.old.items ≡ [] }
-        ensures put { out.new.items ≡ fixed_octets self.now leaf }
+        ensures put { out.new.items ≡ saved_fixed self.now leaf }
         ensures len { array_vec_len out.new ≡ 208 }
         ensures range { HasRange self.now }
         ensures leaf { LeafHasRange leaf }
     {
-        out.push(order_octet(self.order));
-        out.push(root_octet(self.head.root()));
+        out.push(saved_order(self.order));
+        out.push(saved_root(self.head.root()));
         put_eight(out, self.head.message());
         out.push(self.at);
         put_leaf(out, leaf);
         put_held(out, self.carry.as_slice(), 8);
         put_held(out, self.piece.as_slice(), 32);
         put_notes(out, &self.notes);
-        out.push(narrow_octet(self.narrow));
+        out.push(saved_forbids_wide(self.forbids_wide));
     }
 }
 
 /// The octet of a byte order.
-fn order_octet(order: Order) -> u8
-    ensures { result ≡ order_octet order }
+fn saved_order(order: Order) -> u8
+    ensures { result ≡ saved_order order }
 {
     match order {
         Order::Big => 0,
@@ -81,15 +81,15 @@ fn order_octet(order: Order) -> u8
 }
 
 /// The octet that says whether anys and recursive sequences can't hold wide text.
-fn narrow_octet(narrow: bool) -> u8
-    ensures { result ≡ narrow_octet narrow }
+fn saved_forbids_wide(forbids_wide: bool) -> u8
+    ensures { result ≡ saved_forbids_wide forbids_wide }
 {
-    if narrow { 1 } else { 0 }
+    if forbids_wide { 1 } else { 0 }
 }
 
 /// The octet of a root.
-fn root_octet(root: Root) -> u8
-    ensures { result ≡ root_octet root }
+fn saved_root(root: Root) -> u8
+    ensures { result ≡ saved_root root }
 {
     match root {
         Root::Header => 0,
@@ -101,7 +101,7 @@ fn root_octet(root: Root) -> u8
 /// Writes the innermost part, in 13 octets.
 fn put_leaf(out: &mut ArrayVec<u8, 208>, leaf: Leaf)
     requires room { array_vec_len out.old + 13 ≤ 208 }
-    ensures put { out.new.items ≡ out.old.items ++ leaf_octets leaf }
+    ensures put { out.new.items ≡ out.old.items ++ saved_leaf leaf }
     ensures len { array_vec_len out.new ≡ array_vec_len out.old + 13 }
     ensures range { LeafHasRange leaf }
 {
@@ -130,21 +130,21 @@ fn put_leaf(out: &mut ArrayVec<u8, 208>, leaf: Leaf)
 /// Writes what was last noted, in 141 octets.
 fn put_notes(out: &mut ArrayVec<u8, 208>, notes: &Notes)
     requires room { array_vec_len out.old + 141 ≤ 208 }
-    ensures put { out.new.items ≡ out.old.items ++ notes_octets notes.now }
+    ensures put { out.new.items ≡ out.old.items ++ saved_notes notes.now }
     ensures len { array_vec_len out.new ≡ array_vec_len out.old + 141 }
     ensures range { NotesHaveRange notes.now }
 {
     put_optional(out, notes.request_id);
     put_last(out, notes.last);
-    out.push(buffer_octet(notes.buffer));
-    put_held(out, kept_name(notes), 128);
-    out.push(expects_octet(notes.expects_reply));
+    out.push(saved_buffer(notes.buffer));
+    put_held(out, saved_name(notes), 128);
+    out.push(saved_expects_reply(notes.expects_reply));
 }
 
 /// Writes the number of the last enum, or of the interface of an object key, in 5 octets.
 fn put_last(out: &mut ArrayVec<u8, 208>, last: Last)
     requires room { array_vec_len out.old + 5 ≤ 208 }
-    ensures put { out.new.items ≡ out.old.items ++ last_octets last }
+    ensures put { out.new.items ≡ out.old.items ++ saved_last last }
     ensures len { array_vec_len out.new ≡ array_vec_len out.old + 5 }
     ensures range { LastHasRange last }
 {
@@ -165,8 +165,8 @@ fn put_last(out: &mut ArrayVec<u8, 208>, last: Last)
 }
 
 /// The octet that says whether a reply is expected.
-fn expects_octet(expects_reply: Option<bool>) -> u8
-    ensures { result ≡ expects_octet expects_reply }
+fn saved_expects_reply(expects_reply: Option<bool>) -> u8
+    ensures { result ≡ saved_expects_reply expects_reply }
 {
     match expects_reply {
         None => 0,
@@ -176,8 +176,8 @@ fn expects_octet(expects_reply: Option<bool>) -> u8
 }
 
 /// The octet of a name buffer.
-fn buffer_octet(buffer: Buffer) -> u8
-    ensures { result ≡ buffer_octet buffer }
+fn saved_buffer(buffer: Buffer) -> u8
+    ensures { result ≡ saved_buffer buffer }
 {
     match buffer {
         Buffer::Begun => 0,
@@ -189,8 +189,8 @@ fn buffer_octet(buffer: Buffer) -> u8
 }
 
 /// The octets of the name that are stored: none if the buffer is too short.
-fn kept_name(notes: &Notes) -> &[u8]
-    ensures name { result.now ≡ kept_name notes.now.buffer notes.now.name.items }
+fn saved_name(notes: &Notes) -> &[u8]
+    ensures name { result.now ≡ saved_name notes.now.buffer notes.now.name.items }
     ensures short { length result.now ≤ 128 }
     ensures room { length notes.now.name.items ≤ 128 }
 {
@@ -208,7 +208,7 @@ fn kept_name(notes: &Notes) -> &[u8]
 fn put_frames(out: &mut ArrayVec<u8, 576>, outer: &[Frame], leaf: Leaf)
     requires empty { out.old.items ≡ [] }
     requires few { length outer.now < 24 }
-    ensures put { out.new.items ≡ frames_octets (outer.now ++ own_frame leaf ∷ []) }
+    ensures put { out.new.items ≡ saved_frames (outer.now ++ leaf_frame leaf ∷ []) }
     ensures len { array_vec_len out.new ≡ frame_size * (length outer.now + 1) }
     ensures range { AllByRecursion FrameHasRange outer.now }
 {
@@ -230,31 +230,31 @@ fn put_frames(out: &mut ArrayVec<u8, 576>, outer: &[Frame], leaf: Leaf)
 /// Writes a frame.
 fn put_frame(out: &mut ArrayVec<u8, 576>, frame: Frame)
     requires room { array_vec_len out.old + frame_size ≤ 576 }
-    ensures put { out.new.items ≡ out.old.items ++ frame_octets frame }
+    ensures put { out.new.items ≡ out.old.items ++ saved_frame frame }
     ensures len { array_vec_len out.new ≡ array_vec_len out.old + frame_size }
     ensures range { FrameHasRange frame }
 {
     put_four(out, frame.of.0);
     put_four(out, frame.index);
     put_four(out, frame.count);
-    out.push(inside_octet(frame.inside));
-    out.push(told_octet(frame.told));
+    out.push(saved_inside(frame.inside));
+    out.push(saved_stage(frame.told));
     put_zeros(out, 10);
 }
 
 /// The octet of an encapsulation's byte order, or of any other part.
-fn inside_octet(inside: Option<Order>) -> u8
-    ensures { result ≡ inside_octet inside }
+fn saved_inside(inside: Option<Order>) -> u8
+    ensures { result ≡ saved_inside inside }
 {
     match inside {
         None => 0,
-        Some(order) => 1 + order_octet(order),
+        Some(order) => 1 + saved_order(order),
     }
 }
 
 /// The octet of what was told in a frame, if something was.
-fn told_octet(told: Option<Stage>) -> u8
-    ensures { result ≡ told_octet told }
+fn saved_stage(told: Option<Stage>) -> u8
+    ensures { result ≡ saved_stage told }
 {
     match told {
         None => 0,

@@ -3,13 +3,14 @@
 ghost use Rattle.std.specs.Prelude.{IfSome};
 ghost use Rattle.giop_decode.specs.DecoderState.{Fits};
 
+use crate::expecting::expect;
+use crate::known::declared;
 use giop_cdr::Order;
 use giop_decode::{Decoder, Progress};
 use giop_print::{Root, Sheet};
 use giop_sig::Catalogue;
 use giop_testing::spelled;
 use std::process::Abort;
-use std::test::Fail;
 
 const SIGNATURES: &[u8] =
     br#"signatures 3; key "6f7264657273" of "IDL:Orders:1.0"; key "73*" of "IDL:Stock:1.0";"#;
@@ -83,16 +84,22 @@ fn interface_of<'a>(catalogue: &'a Catalogue, minor: u8, octets: &[u8]) -> Optio
 }
 
 #[test]
-fn an_object_key_has_the_interface_of_its_key(rt: HostRuntime) -> Result<(), Fail> {
-    let catalogue = Catalogue::parse_types(rt.alloc(), SIGNATURES)?;
-    each_has_its_interface(&rt, &catalogue);
-    Ok(())
+fn an_object_key_has_the_interface_of_its_key(rt: HostRuntime) {
+    match declared(rt.alloc(), SIGNATURES) {
+        Some(catalogue) => each_has_its_interface(&rt, &catalogue),
+        None => expect(&rt, false, "the signature file"),
+    }
 }
 
 fn each_has_its_interface(rt: &impl Abort, catalogue: &Catalogue) {
-    for (minor, octets, wanted) in ROWS {
-        let mut room = [0; 256];
-        let interface = interface_of(catalogue, minor, spelled(octets, &mut room));
-        assert!(rt; interface.unwrap_or(b"-") == wanted.as_bytes(), "{octets}");
+    for (minor, octets, wanted) in &ROWS {
+        expect(rt, has_interface(catalogue, *minor, octets, wanted), octets);
     }
+}
+
+/// Whether this is the interface of the object key in a header; none if it is `-`.
+fn has_interface(catalogue: &Catalogue, minor: u8, octets: &str, wanted: &str) -> bool {
+    let mut room = [0; 256];
+    let interface = interface_of(catalogue, minor, spelled(octets, &mut room));
+    interface.unwrap_or(b"-") == wanted.as_bytes()
 }

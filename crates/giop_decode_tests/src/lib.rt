@@ -2,7 +2,11 @@
 #![tactic(auto)]
 
 #[cfg(test)]
+mod expecting;
+#[cfg(test)]
 mod key_tests;
+#[cfg(test)]
+mod known;
 #[cfg(test)]
 mod named_tests;
 #[cfg(test)]

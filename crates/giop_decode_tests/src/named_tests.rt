@@ -1,10 +1,8 @@
 //! Numbers of the built-in types of version 3 that have names, octet by octet.
 
-use crate::rows::row_of;
-use crate::tracing::differs;
-use giop_sig::Catalogue;
-use std::process::Abort;
-use std::test::Fail;
+use crate::expecting::expect;
+use crate::known::declared;
+use crate::tests::expect_told;
 
 /// Values of the built-in types, by their numbers in version 3.
 static ROWS: &str = r#"Reply 1.2, of whose contexts one has a name
@@ -72,16 +70,9 @@ m1 body.completed enum COMPLETED_NO
 "#;
 
 #[test]
-fn a_number_of_version_3_has_its_name(rt: HostRuntime) -> Result<(), Fail> {
-    let catalogue = Catalogue::parse_types(rt.alloc(), b"signatures 3;")?;
-    each_is_told(&rt, &catalogue);
-    Ok(())
-}
-
-fn each_is_told(rt: &impl Abort, catalogue: &Catalogue) {
-    for text in ROWS.split("=\n") {
-        let row = row_of(text);
-        let differs = differs(catalogue, &row);
-        assert!(rt; differs.is_empty(), "{}: {differs}", row.name);
+fn a_number_of_version_3_has_its_name(rt: HostRuntime) {
+    match declared(rt.alloc(), b"signatures 3;") {
+        Some(catalogue) => expect_told(&rt, &catalogue, ROWS),
+        None => expect(&rt, false, "the signature file"),
     }
 }

@@ -1,13 +1,11 @@
 //! A struct with a sequence of itself: a decoder of an operation's parameters is stored and restored after each octet.
-ghost use Rattle.std.specs.Prelude.{IfSome};
-ghost use Rattle.giop_decode.specs.DecoderState.{Fits};
 
-use crate::wide_tests::taken_by_one;
+use crate::expecting::expect;
+use crate::known::declared;
+use crate::wide_tests::has_lines;
 use giop_print::{OutFault, Sheet, put_all};
 use giop_sig::Catalogue;
-use giop_testing::spelled;
 use std::process::Abort;
-use std::test::Fail;
 
 const SIGNATURES: &[u8] =
     br#"signatures 3; struct C; struct C { octet name; sequence<C, 2> children; }; operation void c(in C v); operation void e(in encapsulation<C> v, in octet o);"#;
@@ -27,21 +25,17 @@ static ROWS: [(&str, &str, &str); 2] = [
 ];
 
 #[test]
-fn a_struct_has_elements_that_are_such_structs(rt: HostRuntime) -> Result<(), Fail> {
-    let catalogue = Catalogue::parse_types(rt.alloc(), SIGNATURES)?;
-    each_has_its_lines(&rt, &catalogue);
-    Ok(())
+fn a_struct_has_elements_that_are_such_structs(rt: HostRuntime) {
+    match declared(rt.alloc(), SIGNATURES) {
+        Some(catalogue) => each_has_its_lines(&rt, &catalogue),
+        None => expect(&rt, false, "the signature file"),
+    }
 }
 
 fn each_has_its_lines(rt: &impl Abort, catalogue: &Catalogue) {
-    for (operation, octets, lines) in ROWS {
-        let mut room = [0; 256];
-        let spelled = spelled(octets, &mut room);
-        let mut room = [0; 1024];
-        let mut sheet = Sheet::new(&mut room);
-        let taken = taken_by_one(catalogue, operation, 2, spelled, &mut sheet);
-        assert!(rt; taken == Some(spelled.len()), "{operation} {octets}");
-        assert!(rt; sheet.held() == lines.as_bytes(), "{operation} {octets}");
+    for (operation, octets, lines) in &ROWS {
+        let is_wanted = has_lines(catalogue, operation, 2, octets, lines.as_bytes());
+        expect(rt, is_wanted, octets);
     }
 }
 
@@ -80,23 +74,23 @@ static GENERATIONS: [(&str, &[u8]); 2] = [
 ];
 
 #[test]
-fn eleven_generations_have_room(rt: HostRuntime) -> Result<(), Fail> {
-    let catalogue = Catalogue::parse_types(rt.alloc(), SIGNATURES)?;
-    each_is_over(&rt, &catalogue)
+fn eleven_generations_have_room(rt: HostRuntime) {
+    match declared(rt.alloc(), SIGNATURES) {
+        Some(catalogue) => each_is_over(&rt, &catalogue),
+        None => expect(&rt, false, "the signature file"),
+    }
 }
 
-fn each_is_over(rt: &impl Abort, catalogue: &Catalogue) -> Result<(), Fail> {
-    for (octets, last) in GENERATIONS {
-        let mut room = [0; 256];
-        let spelled = spelled(octets, &mut room);
-        let mut room = [0; 4096];
-        let mut sheet = Sheet::new(&mut room);
-        let taken = taken_by_one(catalogue, "c", 2, spelled, &mut sheet);
-        let mut wanted = [0; 4096];
-        let mut sample = Sheet::new(&mut wanted);
-        put_generations(&mut sample, 11, last)?;
-        assert!(rt; taken == Some(spelled.len()), "{octets}");
-        assert!(rt; sheet.held() == sample.held(), "{octets}");
+fn each_is_over(rt: &impl Abort, catalogue: &Catalogue) {
+    for (octets, last) in &GENERATIONS {
+        expect(rt, has_generations(catalogue, octets, last), octets);
     }
-    Ok(())
+}
+
+/// Whether the octets have the lines of eleven generations, of which the last has this line.
+fn has_generations(catalogue: &Catalogue, octets: &str, last: &[u8]) -> bool {
+    let mut room = [0; 4096];
+    let mut sample = Sheet::new(&mut room);
+    put_generations(&mut sample, 11, last).is_ok()
+        && has_lines(catalogue, "c", 2, octets, sample.held())
 }

@@ -2,12 +2,13 @@
 ghost use Rattle.std.specs.Prelude.{IfSome};
 ghost use Rattle.giop_decode.specs.DecoderState.{Fits};
 
+use crate::expecting::{expect, expect_same};
+use crate::known::{built_in, declared};
 use giop_cdr::Order;
 use giop_decode::{Decoder, Progress};
 use giop_print::{Root, Sheet};
 use giop_sig::{Catalogue, TypeId};
 use giop_testing::{front, spelled};
-use std::test::Fail;
 
 /// A sequence of structs whose one member is an array: its parameters' type is numbered 44, the sequence 43, the struct
 /// 42, the array 41, and the built-in short 3.
@@ -145,59 +146,60 @@ fn parameters_differ(catalogue: &Catalogue, operation: &str, wanted: &Stored) ->
     }
 }
 
-#[test]
-fn a_decoder_in_an_array_in_a_sequence_is_restored(rt: HostRuntime) -> Result<(), Fail> {
-    let catalogue = Catalogue::parse(rt.alloc(), DOTS)?;
-    let differs = parameters_differ(
-        &catalogue,
+/// The parameters of an operation of a signature file, the last octet with its answer and its lines.
+type Row = (&'static [u8], &'static str, Stored<'static>);
+
+static ROWS: [Row; 2] = [
+    (
+        DOTS,
         "add",
-        &Stored {
+        Stored {
             taken: TAKEN,
             stored: DOTS_STORED,
             octet: 8,
             answer: Progress::Done,
             lines: "m1 body.dots[1].spot[1] short 8\n",
         },
-    );
-    assert!(rt; differs.is_empty(), "{differs}");
-    Ok(())
-}
-
-#[test]
-fn a_decoder_in_an_encapsulation_is_restored(rt: HostRuntime) -> Result<(), Fail> {
-    let catalogue = Catalogue::parse(rt.alloc(), HELD)?;
-    let differs = parameters_differ(
-        &catalogue,
+    ),
+    (
+        HELD,
         "enc",
-        &Stored {
+        Stored {
             taken: HELD_TAKEN,
             stored: HELD_STORED,
             octet: 0,
             answer: Progress::Done,
             lines: "m1 body.e.b ulonglong 5\n",
         },
-    );
-    assert!(rt; differs.is_empty(), "{differs}");
-    Ok(())
-}
+    ),
+];
 
 #[test]
-fn a_decoder_in_a_piece_is_restored(rt: HostRuntime) -> Result<(), Fail> {
-    let catalogue = Catalogue::builtin(rt.alloc())?;
-    let differs = differs(
-        &catalogue,
-        TypeId(11),
-        Root::Exception,
-        &Stored {
-            taken: NAMED,
-            stored: NAMED_STORED,
-            octet: 98,
-            answer: Progress::More,
-            lines: "",
-        },
-    );
-    assert!(rt; differs.is_empty(), "{differs}");
-    Ok(())
+fn a_decoder_in_an_array_or_an_encapsulation_is_restored(rt: HostRuntime) {
+    for (file, operation, wanted) in &ROWS {
+        let differs = match declared(rt.alloc(), file) {
+            Some(catalogue) => parameters_differ(&catalogue, operation, wanted),
+            None => "the signature file",
+        };
+        expect_same(&rt, differs, operation);
+    }
+}
+
+static PIECE: Stored<'static> = Stored {
+    taken: NAMED,
+    stored: NAMED_STORED,
+    octet: 98,
+    answer: Progress::More,
+    lines: "",
+};
+
+#[test]
+fn a_decoder_in_a_piece_is_restored(rt: HostRuntime) {
+    let differs = match built_in(rt.alloc()) {
+        Some(catalogue) => differs(&catalogue, TypeId(11), Root::Exception, &PIECE),
+        None => "the built-in types",
+    };
+    expect_same(&rt, differs, "a piece");
 }
 
 /// What differs of a decoder that was saved before bodies were heard, or nothing: it goes on, and its line is right.
@@ -264,14 +266,6 @@ static REFUSED_HELD: &str = r#"244 0 no byte order
 239 0 an encapsulation of which no octet was taken
 239 17 more octets than an encapsulation has"#;
 
-#[test]
-fn octets_that_no_decoder_stores_are_refused(rt: HostRuntime) -> Result<(), Fail> {
-    let catalogue = Catalogue::parse(rt.alloc(), DOTS)?;
-    let differs = not_refused(&catalogue, DOTS_STORED, REFUSED);
-    assert!(rt; differs.is_empty(), "{differs}");
-    Ok(())
-}
-
 /// The same of the decoder in a piece of a repository id.
 static REFUSED_NAMED: &str = r#"76 1 a whole name, in a string
 76 2 no name where 32 octets of it were read
@@ -285,11 +279,12 @@ static REFUSED_UNNOTED: &str = r#"1 0 a header of which nothing was noted
 77 33 more octets of a name than were read"#;
 
 #[test]
-fn names_that_no_decoder_in_a_string_notes_are_refused(rt: HostRuntime) -> Result<(), Fail> {
-    let catalogue = Catalogue::builtin(rt.alloc())?;
-    let differs = names_differ(&catalogue);
-    assert!(rt; differs.is_empty(), "{differs}");
-    Ok(())
+fn names_that_no_decoder_in_a_string_notes_are_refused(rt: HostRuntime) {
+    let differs = match built_in(rt.alloc()) {
+        Some(catalogue) => names_differ(&catalogue),
+        None => "the built-in types",
+    };
+    expect_same(&rt, differs, "names");
 }
 
 /// The first line of these tables whose octet isn't refused, what differs of the decoder that noted nothing, or nothing.
@@ -306,17 +301,16 @@ fn names_differ(catalogue: &Catalogue) -> &'static str {
 }
 
 #[test]
-fn octets_that_no_decoder_in_an_encapsulation_stores_are_refused(
-    rt: HostRuntime,
-) -> Result<(), Fail> {
-    let catalogue = Catalogue::parse(rt.alloc(), HELD)?;
-    let differs = not_refused(&catalogue, HELD_STORED, REFUSED_HELD);
-    assert!(rt; differs.is_empty(), "{differs}");
-    Ok(())
+fn octets_that_no_decoder_in_an_encapsulation_stores_are_refused(rt: HostRuntime) {
+    let differs = match declared(rt.alloc(), HELD) {
+        Some(catalogue) => not_refused(&catalogue, HELD_STORED, REFUSED_HELD),
+        None => "the signature file",
+    };
+    expect_same(&rt, differs, "in an encapsulation");
 }
 
 /// The first line of a table whose octet isn't refused, or nothing.
-fn not_refused<'a>(catalogue: &Catalogue, stored: &str, table: &'a str) -> &'a str {
+fn not_refused(catalogue: &Catalogue, stored: &str, table: &'static str) -> &'static str {
     for line in table.split('\n') {
         if !is_refused(catalogue, stored, line) {
             return line;
@@ -346,11 +340,15 @@ fn is_refused(catalogue: &Catalogue, stored: &str, line: &str) -> bool {
 }
 
 #[test]
-fn frames_too_few_or_too_many_are_refused(rt: HostRuntime) -> Result<(), Fail> {
-    let catalogue = Catalogue::parse(rt.alloc(), DOTS)?;
-    let differs = frames_differ(&catalogue);
-    assert!(rt; differs.is_empty(), "{differs}");
-    Ok(())
+fn octets_and_frames_that_no_decoder_in_an_array_stores_are_refused(rt: HostRuntime) {
+    match declared(rt.alloc(), DOTS) {
+        Some(catalogue) => {
+            let differs = not_refused(&catalogue, DOTS_STORED, REFUSED);
+            expect_same(&rt, differs, "in an array");
+            expect_same(&rt, frames_differ(&catalogue), "frames");
+        }
+        None => expect(&rt, false, "the signature file"),
+    }
 }
 
 /// Where the octets of the decoder in an array are restored with others after them, or without their last ones, or

@@ -3,7 +3,9 @@
 ghost use Rattle.std.specs.Prelude.{IfSome};
 ghost use Rattle.giop_decode.specs.DecoderState.{Fits};
 
+use crate::expecting::expect;
 use crate::key_tests::again;
+use crate::known::declared;
 use crate::stored_tests::parameters_of;
 use giop_cdr::Order;
 use giop_decode::{Decoder, Progress};
@@ -11,7 +13,6 @@ use giop_print::{Root, Sheet};
 use giop_sig::Catalogue;
 use giop_testing::spelled;
 use std::process::Abort;
-use std::test::Fail;
 
 const SIGNATURES: &[u8] =
     br#"signatures 3; struct W "W" { wstring x; }; operation void c(in wchar v); operation void s(in wstring v); operation void m(in octet o, in wchar v, in ushort u); operation void a(in any v);"#;
@@ -83,7 +84,7 @@ static ROWS: [(&str, u8, &str, &str); 14] = [
 ];
 
 /// How many octets of an operation's parameters were taken when these were over.
-pub fn taken_by_one(
+fn taken_by_one(
     catalogue: &Catalogue,
     operation: &str,
     minor: u8,
@@ -109,20 +110,32 @@ pub fn taken_by_one(
 }
 
 #[test]
-fn wide_text_is_octets_in_messages_of_1_2_alone(rt: HostRuntime) -> Result<(), Fail> {
-    let catalogue = Catalogue::parse_types(rt.alloc(), SIGNATURES)?;
-    each_has_its_lines(&rt, &catalogue);
-    Ok(())
+fn wide_text_is_octets_in_messages_of_1_2_alone(rt: HostRuntime) {
+    match declared(rt.alloc(), SIGNATURES) {
+        Some(catalogue) => each_has_its_lines(&rt, &catalogue),
+        None => expect(&rt, false, "the signature file"),
+    }
 }
 
 fn each_has_its_lines(rt: &impl Abort, catalogue: &Catalogue) {
-    for (operation, minor, octets, lines) in ROWS {
-        let mut room = [0; 256];
-        let spelled = spelled(octets, &mut room);
-        let mut room = [0; 1024];
-        let mut sheet = Sheet::new(&mut room);
-        let taken = taken_by_one(catalogue, operation, minor, spelled, &mut sheet);
-        assert!(rt; taken == Some(spelled.len()), "{operation} {octets}");
-        assert!(rt; sheet.held() == lines.as_bytes(), "{operation} {octets}");
+    for (operation, minor, octets, lines) in &ROWS {
+        let is_wanted = has_lines(catalogue, operation, *minor, octets, lines.as_bytes());
+        expect(rt, is_wanted, octets);
     }
+}
+
+/// Whether an operation's parameters are over at the last of these octets, and have these lines.
+pub fn has_lines(
+    catalogue: &Catalogue,
+    operation: &str,
+    minor: u8,
+    octets: &str,
+    lines: &[u8],
+) -> bool {
+    let mut room = [0; 256];
+    let spelled = spelled(octets, &mut room);
+    let mut room = [0; 4096];
+    let mut sheet = Sheet::new(&mut room);
+    let taken = taken_by_one(catalogue, operation, minor, spelled, &mut sheet);
+    taken == Some(spelled.len()) && sheet.held() == lines
 }

@@ -10,16 +10,16 @@ use Rattle.std.proofs.lemmas.Option.{slice_get-map, slice_get_past}
 use Rattle.std.specs.Option.{option_map}
 use Rattle.slab.specs.Slab.{Slab, get, slab_len, Updates, with_value}
 use Rattle.giop_entry_table.specs.declared.entry_table.Entry.{Entry}
-use Rattle.giop_entry_table.specs.EntryTable.{revalued}
-use Rattle.giop_entry_table.specs.EntryTableView.{entries_of, IsTied}
+use Rattle.giop_entry_table.specs.EntryTable.{replace_value}
+use Rattle.giop_entry_table.specs.EntryTableView.{entries_of, MatchesSlab}
 
 -- the slab has a value under each of these numbers
-abbrev pub AllHeld : {V : Type 0} → Slab V → List ℕ → Type 0
-AllHeld values numbers = Each (λ number. IsSome (get values number)) numbers
+abbrev pub HaveValues : {V : Type 0} (values : Slab V) (numbers : List ℕ) → Type 0
+HaveValues values numbers = Each (λ number. IsSome (get values number)) numbers
 
 -- two slabs have the same under each of these numbers
-abbrev pub SameAt : {V : Type 0} → Slab V → Slab V → List ℕ → Type 0
-SameAt old new numbers = Each (λ number. get new number ≡ get old number) numbers
+abbrev pub HaveSameValues : {V : Type 0} (old new : Slab V) (numbers : List ℕ) → Type 0
+HaveSameValues old new numbers = Each (λ number. get new number ≡ get old number) numbers
 
 module _ {V : Type 0} where
   -- the value that is there
@@ -28,7 +28,7 @@ module _ {V : Type 0} where
   there (Some v) p = (v, refl)
 
   pub length-entries : (values : Slab V) (keys numbers : List ℕ) → length keys ≡ length numbers →
-      AllHeld values numbers →
+      HaveValues values numbers →
       length (entries_of values keys numbers) ≡ length numbers
   length-entries values [] [] same held = refl
   length-entries values [] (n ∷ ns) same held = absurd (omega (arith, same))
@@ -39,7 +39,7 @@ module _ {V : Type 0} where
       rw v.1 (ap suc rest)
 
   pub entry_at : (values : Slab V) (keys numbers : List ℕ) (index : ℕ) (v : V) →
-      length keys ≡ length numbers → AllHeld values numbers →
+      length keys ≡ length numbers → HaveValues values numbers →
       index < length numbers → get values (get_or numbers index 0) ≡ Some v →
       slice_get (entries_of values keys numbers) index
       ≡ Some (record { key = get_or keys index 0; value = v })
@@ -52,14 +52,14 @@ module _ {V : Type 0} where
       found in
       rw first.1 rest
 
-  pub entries-same : (old new : Slab V) (keys numbers : List ℕ) → SameAt old new numbers →
+  pub entries-same : (old new : Slab V) (keys numbers : List ℕ) → HaveSameValues old new numbers →
       entries_of new keys numbers ≡ entries_of old keys numbers
   entries-same old new [] numbers same = refl
   entries-same old new (k ∷ ks) [] same = refl
   entries-same old new (k ∷ ks) (n ∷ ns) same = rw (same.0, entries-same old new ks ns same.1) refl
 
   pub entries-push : (values : Slab V) (keys numbers : List ℕ) (key number : ℕ) (v : V) →
-      length keys ≡ length numbers → AllHeld values numbers →
+      length keys ≡ length numbers → HaveValues values numbers →
       get values number ≡ Some v →
       entries_of values (keys ++ key ∷ []) (numbers ++ number ∷ [])
       ≡ entries_of values keys numbers ++ record { key = key; value = v } ∷ []
@@ -72,7 +72,7 @@ module _ {V : Type 0} where
       rw (first.1, rest) refl
 
   pub entries-remove : (values : Slab V) (keys numbers : List ℕ) (index : ℕ) →
-      length keys ≡ length numbers → AllHeld values numbers →
+      length keys ≡ length numbers → HaveValues values numbers →
       entries_of values (remove keys index) (remove numbers index)
       ≡ remove (entries_of values keys numbers) index
   entries-remove values [] [] index same held =
@@ -88,10 +88,10 @@ module _ {V : Type 0} where
       rw first.1 (rw rest refl)
 
   pub entries-revalued : (old new : Slab V) (keys numbers : List ℕ) (index : ℕ) (v : V) →
-      length keys ≡ length numbers → AllHeld old numbers →
+      length keys ≡ length numbers → HaveValues old numbers →
       IsDistinct eqb numbers → index < length numbers →
       Updates old new (get_or numbers index 0) (Some v) →
-      entries_of new keys numbers ≡ revalued (entries_of old keys numbers) index v
+      entries_of new keys numbers ≡ replace_value (entries_of old keys numbers) index v
   unfolding IsDistinct
   entries-revalued old new keys [] index v same held distinct within updates =
       absurd (omega (arith, within))
@@ -99,7 +99,8 @@ module _ {V : Type 0} where
       absurd (omega (arith, same))
   entries-revalued old new (k ∷ ks) (n ∷ ns) zero v same held distinct within updates =
       let first = there (get old n) held.0 in
-      let kept : SameAt old new ns = each-map (λ m. eqb n m ≡ false) (λ m. get new m ≡ get old m)
+      let kept : HaveSameValues old new ns = each-map (λ m. eqb n m ≡ false) (λ m. get new m
+      ≡ get old m)
       (λ m apart. updates.others m (λ e. eqb-false n m apart (sym e))) ns distinct.0 in
       rw (first.1, updates.changed, entries-same old new ks ns kept) refl
   entries-revalued old new (k ∷ ks) (n ∷ ns) (suc index) v same held distinct within updates =
@@ -112,7 +113,7 @@ module _ {V : Type 0} where
       rw (kept, first.1, rest) refl
 
   pub position-entries : (values : Slab V) (keys numbers : List ℕ) (key from : ℕ) →
-      length keys ≡ length numbers → AllHeld values numbers →
+      length keys ≡ length numbers → HaveValues values numbers →
       position_from (λ e. e.key == key) from (entries_of values keys numbers)
       ≡ position_from (λ k. k == key) from keys
   position-entries values [] numbers key from same held = refl
@@ -123,7 +124,7 @@ module _ {V : Type 0} where
       rw first.1 (ap (cond (k == key) (Some from)) rest)
 
   pub keys-of : (values : Slab V) (keys numbers : List ℕ) → length keys ≡ length numbers →
-      AllHeld values numbers →
+      HaveValues values numbers →
       map (λ e. e.key) (entries_of values keys numbers) ≡ keys
   keys-of values [] numbers same held = refl
   keys-of values (k ∷ ks) [] same held = absurd (omega (arith, same))
@@ -145,7 +146,7 @@ module _ {V : Type 0} where
   drop-keys (e ∷ es) (suc n) = drop-keys es n
 
   pub position-entries-after : (values : Slab V) (keys numbers : List ℕ) (key n : ℕ) →
-      length keys ≡ length numbers → AllHeld values numbers →
+      length keys ≡ length numbers → HaveValues values numbers →
       position_from (λ e. e.key == key) n (drop n (entries_of values keys numbers))
       ≡ position_from (λ k. k == key) n (drop n keys)
   position-entries-after values keys numbers key n same held =
@@ -154,12 +155,12 @@ module _ {V : Type 0} where
       ∙ ap (drop n) (keys-of values keys numbers same held))
 
   -- if ids, numbers and values are tied, there are as many entries as numbers
-  pub length-held : (keys numbers : List ℕ) (values : Slab V) → IsTied keys numbers values →
+  pub length-held : (keys numbers : List ℕ) (values : Slab V) → MatchesSlab keys numbers values →
       length (entries_of values keys numbers) ≡ length numbers
   length-held keys numbers values tied = length-entries values keys numbers tied.as_many tied.held
 
   pub held-at : (keys numbers : List ℕ) (values : Slab V) (index : ℕ) →
-      IsTied keys numbers values → index < length numbers →
+      MatchesSlab keys numbers values → index < length numbers →
       (v : V) × (get values (get_or numbers index 0) ≡ Some v)
       × (slice_get (entries_of values keys numbers) index
       ≡ Some (record { key = get_or keys index 0; value = v }))
@@ -168,26 +169,26 @@ module _ {V : Type 0} where
       (v.0, v.1, entry_at values keys numbers index v.0 tied.as_many tied.held within v.1)
 
   same-beside : (old new : Slab V) (number : ℕ) (slot : Option V) (numbers : List ℕ) →
-      Updates old new number slot → Each (λ m. m ≢ number) numbers → SameAt old new numbers
+      Updates old new number slot → Each (λ m. m ≢ number) numbers → HaveSameValues old new numbers
   same-beside old new number slot numbers updates apart =
       each-map (λ m. m ≢ number) (λ m. get new m ≡ get old m) (λ m. updates.others m) numbers apart
 
-  held-beside : (old new : Slab V) (numbers : List ℕ) → SameAt old new numbers →
-      AllHeld old numbers → AllHeld new numbers
+  held-beside : (old new : Slab V) (numbers : List ℕ) → HaveSameValues old new numbers →
+      HaveValues old numbers → HaveValues new numbers
   held-beside old new numbers same held =
       each-both (λ m. get new m ≡ get old m) (λ m. IsSome (get old m)) (λ m. IsSome (get new m))
       (λ m e p. rw e p) numbers same held
 
   vacant-apart : (values : Slab V) (number : ℕ) (numbers : List ℕ) → get values number ≡ None →
-      AllHeld values numbers → Each (λ m. m ≢ number) numbers
+      HaveValues values numbers → Each (λ m. m ≢ number) numbers
   vacant-apart values number numbers vacant held =
       each-map (λ m. IsSome (get values m)) (λ m. m ≢ number)
       (λ m p e. absurd (cc (vacant, p, ap (get values) e))) numbers held
 
   pub IsTied-push : (keys numbers : List ℕ) (old new : Slab V) (key number : ℕ) (v : V) →
-      IsTied keys numbers old → get old number ≡ None →
+      MatchesSlab keys numbers old → get old number ≡ None →
       Updates old new number (Some v) → slab_len new ≡ slab_len old + 1 →
-      IsTied (keys ++ key ∷ []) (numbers ++ number ∷ []) new
+      MatchesSlab (keys ++ key ∷ []) (numbers ++ number ∷ []) new
   IsTied-push keys numbers old new key number v tied vacant updates len =
       let apart = vacant-apart old number numbers vacant tied.held in
       let kept = held-beside old new numbers (same-beside old new number _ numbers updates apart)
@@ -205,7 +206,7 @@ module _ {V : Type 0} where
       }
 
   pub entries-added : (keys numbers : List ℕ) (old new : Slab V) (key number : ℕ) (v : V) →
-      IsTied keys numbers old → get old number ≡ None →
+      MatchesSlab keys numbers old → get old number ≡ None →
       Updates old new number (Some v) →
       entries_of new (keys ++ key ∷ []) (numbers ++ number ∷ [])
       ≡ entries_of old keys numbers ++ record { key = key; value = v } ∷ []
@@ -218,9 +219,9 @@ module _ {V : Type 0} where
       (entries-same old new keys numbers same)
 
   pub IsTied-remove : (keys numbers : List ℕ) (old new : Slab V) (index : ℕ) →
-      IsTied keys numbers old → index < length numbers →
+      MatchesSlab keys numbers old → index < length numbers →
       Updates old new (get_or numbers index 0) None → slab_len new + 1 ≡ slab_len old →
-      IsTied (remove keys index) (remove numbers index) new
+      MatchesSlab (remove keys index) (remove numbers index) new
   IsTied-remove keys numbers old new index tied within updates len =
       let apart = others-remove numbers index tied.distinct within in
       let same = same-beside old new _ _ (remove numbers index) updates apart in
@@ -239,7 +240,7 @@ module _ {V : Type 0} where
       }
 
   pub entries-taken : (keys numbers : List ℕ) (old new : Slab V) (index : ℕ) →
-      IsTied keys numbers old → index < length numbers →
+      MatchesSlab keys numbers old → index < length numbers →
       Updates old new (get_or numbers index 0) None →
       entries_of new (remove keys index) (remove numbers index)
       ≡ remove (entries_of old keys numbers) index
@@ -250,9 +251,9 @@ module _ {V : Type 0} where
       ∙ entries-remove old keys numbers index tied.as_many tied.held
 
   pub IsTied-revalued : (keys numbers : List ℕ) (old new : Slab V) (index : ℕ) (v : V) →
-      IsTied keys numbers old →
+      MatchesSlab keys numbers old →
       Updates old new (get_or numbers index 0) (Some v) → slab_len new ≡ slab_len old →
-      IsTied keys numbers new
+      MatchesSlab keys numbers new
   IsTied-revalued keys numbers old new index v tied updates len =
       record {
         as_many = tied.as_many;
@@ -265,7 +266,7 @@ module _ {V : Type 0} where
         counted = len ∙ tied.counted;
       }
 
-  pub IsTied-none : (values : Slab V) → values.slots ≡ [] → IsTied [] [] values
+  pub IsTied-none : (values : Slab V) → values.slots ≡ [] → MatchesSlab [] [] values
   unfolding IsDistinct
   IsTied-none values empty = record {
     as_many = refl;
@@ -277,7 +278,7 @@ module _ {V : Type 0} where
 
   -- the ids are those of the entries
   pub keys-held : (keys numbers : List ℕ) (values : Slab V) (index : ℕ) →
-      IsTied keys numbers values →
+      MatchesSlab keys numbers values →
       option_map (λ e. e.key) (slice_get (entries_of values keys numbers) index)
       ≡ slice_get keys index
   keys-held keys numbers values index tied =
@@ -286,7 +287,7 @@ module _ {V : Type 0} where
 
   -- the value of an entry is the one under its number
   pub value-at : (keys numbers : List ℕ) (values : Slab V) (index number : ℕ) →
-      IsTied keys numbers values → index < length numbers →
+      MatchesSlab keys numbers values → index < length numbers →
       number ≡ get_or numbers index 0 →
       option_map (λ e. e.value) (slice_get (entries_of values keys numbers) index)
       ≡ get values number
@@ -295,20 +296,20 @@ module _ {V : Type 0} where
       rw at.2 (rw found (sym at.1))
 
   pub none-at : (keys numbers : List ℕ) (values : Slab V) (index : ℕ) →
-      IsTied keys numbers values → length numbers ≤ index →
+      MatchesSlab keys numbers values → length numbers ≤ index →
       slice_get (entries_of values keys numbers) index ≡ None
   none-at keys numbers values index tied past =
       slice_get_past _ index (rw (length-held keys numbers values tied) past)
 
   -- the slab has a value under the number at an index
   pub held-number : (keys numbers : List ℕ) (values : Slab V) (index number : ℕ) →
-      IsTied keys numbers values → index < length numbers →
+      MatchesSlab keys numbers values → index < length numbers →
       number ≡ get_or numbers index 0 → IsSome (get values number)
   held-number keys numbers values index number tied within found =
       rw found (each-at (λ n. IsSome (get values n)) numbers index tied.held within)
 
   pub entry-of : (keys numbers : List ℕ) (values : Slab V) (index number : ℕ) (v : V) →
-      IsTied keys numbers values → index < length numbers →
+      MatchesSlab keys numbers values → index < length numbers →
       number ≡ get_or numbers index 0 → get values number ≡ Some v →
       slice_get (entries_of values keys numbers) index
       ≡ Some (record { key = get_or keys index 0; value = v })

@@ -8,7 +8,7 @@ use Rattle.std.proofs.lemmas.List.Edits.{length-remove, get_or-remove_below, get
 use Rattle.std.proofs.lemmas.List.Sums.{sum_by-append, sum_by-cons, sum_by-remove}
 use Rattle.std.proofs.lemmas.Bool.{ne_eqb}
 use Rattle.std.proofs.lemmas.Bool.Decides.{eqb_tells, leb_tells}
-use Rattle.giop_entry_table.specs.Ids.{IsBefore, AreIndexed}
+use Rattle.giop_entry_table.specs.Ids.{IsLowerBound, AreIndexedByRemainder}
 
 -- a search goes on after elements that don't pass the test
 position-apart : (test : ℕ → Bool) (xs : List ℕ) (n from : ℕ) → n ≤ length xs →
@@ -31,7 +31,7 @@ position-behind test xs n few none = position-apart test xs n 0 few none
     ∙ ap (λ k. position_from test k (drop n xs)) (zero-add n)
 
 -- an id that has the remainder is counted, and no other one is
-abbrev one_if : Bool → ℕ
+abbrev one_if : (test : Bool) → ℕ
 one_if test = cond test 1 0
 
 one_of : (a b : ℕ) → a ≡ b → one_if (a == b) ≡ 1
@@ -48,7 +48,7 @@ added : (p : ℕ → Bool) (xs : List ℕ) (x : ℕ) →
 added p xs x = grind (arith, sum_by-append, sum_by-cons)
 
 module _ (divisor : ℕ) (keys counts firsts : List ℕ) (removals : ℕ)
-    (h : AreIndexed divisor keys counts firsts removals) where
+    (h : AreIndexedByRemainder divisor keys counts firsts removals) where
   -- the id at this index is counted
   pub some_counted : (index r : ℕ) → index < length keys → r ≡ get_or keys index 0 % divisor →
       r < divisor → 1 ≤ get_or counts r 0
@@ -59,8 +59,8 @@ module _ (divisor : ℕ) (keys counts firsts : List ℕ) (removals : ℕ)
       omega (arith, all, one, h.counted r within)
 
   pub indexed_push : (key r first : ℕ) → r < divisor → r ≡ key % divisor →
-      IsBefore keys divisor removals r first → first ≤ length keys + removals → first < 2 ^ 64 →
-      AreIndexed divisor (keys ++ key ∷ []) (set counts r (get_or counts r 0 + 1))
+      IsLowerBound keys divisor removals r first → first ≤ length keys + removals → first < 2 ^ 64 →
+      AreIndexedByRemainder divisor (keys ++ key ∷ []) (set counts r (get_or counts r 0 + 1))
       (set firsts r first) removals
   indexed_push key r first within is before few range =
       let long = length-append keys (key ∷ []) in
@@ -100,10 +100,6 @@ module _ (divisor : ℕ) (keys counts firsts : List ℕ) (removals : ℕ)
                 | inr other_r ↦ omega (arith, other j other_r.1, h.before j less i short held)
               ]
         ];
-        within = λ j less. elim (eqb_tells j r) [
-          | inl same ↦ rw same.1 (omega (arith, written, few, long))
-          | inr apart ↦ omega (arith, other j apart.1, h.within j less, long)
-        ];
         range = λ j less. elim (eqb_tells j r) [
           | inl same ↦ rw same.1 (omega (arith, written, range))
           | inr apart ↦ omega (arith, other j apart.1, h.range j less)
@@ -112,8 +108,9 @@ module _ (divisor : ℕ) (keys counts firsts : List ℕ) (removals : ℕ)
 
   pub indexed_remove : (index r removals' : ℕ) → index < length keys →
       r ≡ get_or keys index 0 % divisor → r < divisor →
-      removals' ≡ min (removals + 1) (2 ^ 64 - 1) →
-      AreIndexed divisor (remove keys index) (set counts r (get_or counts r 0 - 1)) firsts removals'
+      removals' ≡ min (removals + min (length keys - index - 1) 1) (2 ^ 64 - 1) →
+      AreIndexedByRemainder divisor (remove keys index) (set counts r
+      (get_or counts r 0 - 1)) firsts removals'
   indexed_remove index r removals' there is within up =
       let shorter = length-remove keys index there in
       record {
@@ -146,21 +143,19 @@ module _ (divisor : ℕ) (keys counts firsts : List ℕ) (removals : ℕ)
               let held = sym (ap (λ k. k % divisor)
               (get_or-remove_above keys index 0 i (omega (arith, later.1)) there)) ∙ has in
               let bound = h.before j less (i + 1) (omega (arith, here, shorter)) held in
-              omega (arith, bound, h.range j less, up)
+              omega (arith, bound, h.range j less, here, shorter, later.1, there, up)
         ];
-        within = λ j less. omega (arith, h.within j less, h.range j less, shorter, there, up);
         range = h.range;
       }
 
 -- if the divisor is 0, nothing is kept of any ids
 pub indexed_none : (divisor : ℕ) (keys others counts firsts : List ℕ) (removals : ℕ) →
-    divisor ≡ 0 → AreIndexed divisor keys counts firsts removals →
-    AreIndexed divisor others counts firsts removals
+    divisor ≡ 0 → AreIndexedByRemainder divisor keys counts firsts removals →
+    AreIndexedByRemainder divisor others counts firsts removals
 indexed_none divisor keys others counts firsts removals none h = record {
   counts_many = h.counts_many;
   firsts_many = h.firsts_many;
   counted = λ r less. absurd (omega (arith, less, none));
   before = λ r less i here has. absurd (omega (arith, less, none));
-  within = λ r less. absurd (omega (arith, less, none));
   range = λ r less. absurd (omega (arith, less, none));
 }

@@ -7,20 +7,20 @@ use Rattle.std.specs.List.{remove, position_from}
 use Rattle.std.specs.Option.{option_map}
 use Rattle.giop_entry_table.specs.declared.entry_table.Entry.{Entry}
 use Rattle.giop_entry_table.specs.EntryTable as by_ids
-use Rattle.giop_entry_table.specs.OptionalIds.{is_id, revalued}
-use Rattle.giop_entry_table.specs.OptionalIdsView.{first_key, index_after, with_optional_ids, after_removal}
+use Rattle.giop_entry_table.specs.OptionalIds.{is_id, replace_value}
+use Rattle.giop_entry_table.specs.OptionalIdsView.{first_key, index_in_tail, with_optional_ids, index_after_removal}
 
 -- the entry without an id is among this number of entries, if there is one
-abbrev pub IsWithin : Option ℕ → ℕ → Type 0
+abbrev pub IsWithin : (index : Option ℕ) (count : ℕ) → Type 0
 IsWithin index count = IfSome index (λ k. k < count)
 
 within-after : (index : Option ℕ) (count : ℕ) → IsWithin index (suc count) →
-    IsWithin (index_after index) count
+    IsWithin (index_in_tail index) count
 within-after None count within = tt
 within-after (Some zero) count within = tt
 within-after (Some (suc k)) count within = omega (arith, within)
 
-is_id-after : (index : Option ℕ) (k : ℕ) → is_id (suc k) index ≡ is_id k (index_after index)
+is_id-after : (index : Option ℕ) (k : ℕ) → is_id (suc k) index ≡ is_id k (index_in_tail index)
 is_id-after None k = refl
 is_id-after (Some zero) k = eqb-zero-suc k
 is_id-after (Some (suc n)) k = eqb-suc-suc n k
@@ -44,20 +44,21 @@ first-not (Some zero) id key apart = refl
 first-not (Some (suc k)) id key apart = apart
 
 first-removed : (index : Option ℕ) (removed : ℕ) →
-    (first_key (after_removal index (suc removed)) ≡ first_key index)
-    × (index_after (after_removal index (suc removed)) ≡ after_removal (index_after index) removed)
+    (first_key (index_after_removal index (suc removed)) ≡ first_key index)
+    × (index_in_tail (index_after_removal index (suc removed)) ≡ index_after_removal
+    (index_in_tail index) removed)
 first-removed None removed = (refl, refl)
 first-removed (Some zero) removed = (refl, refl)
-first-removed (Some (suc k)) removed = by (after_removal (Some k) removed) refl
+first-removed (Some (suc k)) removed = by (index_after_removal (Some k) removed) refl
   where
-    by : (o : Option ℕ) → after_removal (Some k) removed ≡ o →
-        (first_key (after_removal (Some (suc k)) (suc removed)) ≡ first_key (Some (suc k)))
-        × (index_after (after_removal (Some (suc k)) (suc removed))
-        ≡ after_removal (Some k) removed)
+    by : (o : Option ℕ) → index_after_removal (Some k) removed ≡ o →
+        (first_key (index_after_removal (Some (suc k)) (suc removed)) ≡ first_key (Some (suc k)))
+        × (index_in_tail (index_after_removal (Some (suc k)) (suc removed))
+        ≡ index_after_removal (Some k) removed)
     by None is = rw is (refl, refl)
     by (Some n) is = rw is (refl, refl)
 
-removed-first : (index : Option ℕ) → after_removal index 0 ≡ index_after index
+removed-first : (index : Option ℕ) → index_after_removal index 0 ≡ index_in_tail index
 removed-first None = refl
 removed-first (Some zero) = refl
 removed-first (Some (suc k)) = refl
@@ -66,14 +67,14 @@ module _ {V : Type 0} where
   pub length-optional : (index : Option ℕ) (es : List (Entry V)) →
       length (with_optional_ids index es) ≡ length es
   length-optional index [] = refl
-  length-optional index (e ∷ es) = ap suc (length-optional (index_after index) es)
+  length-optional index (e ∷ es) = ap suc (length-optional (index_in_tail index) es)
 
   pub value-optional : (index : Option ℕ) (es : List (Entry V)) (k : ℕ) →
       option_map (λ e. e.value) (slice_get (with_optional_ids index es) k)
       ≡ option_map (λ e. e.value) (slice_get es k)
   value-optional index [] k = refl
   value-optional index (e ∷ es) zero = refl
-  value-optional index (e ∷ es) (suc k) = value-optional (index_after index) es k
+  value-optional index (e ∷ es) (suc k) = value-optional (index_in_tail index) es k
 
   pub key-optional : (index : Option ℕ) (es : List (Entry V)) (k : ℕ) →
       option_map (λ e. e.key) (slice_get (with_optional_ids index es) k)
@@ -81,7 +82,7 @@ module _ {V : Type 0} where
   key-optional index [] k = refl
   key-optional index (e ∷ es) zero = ap Some (first_key-at index e.key)
   key-optional index (e ∷ es) (suc k) =
-      rw (is_id-after index k) (key-optional (index_after index) es k)
+      rw (is_id-after index k) (key-optional (index_in_tail index) es k)
 
   pub key-there : (index : Option ℕ) (es : List (Entry V)) (k key : ℕ) →
       option_map (λ e. e.key) (slice_get es k) ≡ Some key →
@@ -132,7 +133,8 @@ module _ {V : Type 0} where
 
   -- an id is found at the first index of it among the ids, unless that is the entry without an id;
   -- else the search goes on after that one
-  abbrev IsFound : Option ℕ → ℕ → List (Entry V) → ℕ → Option ℕ → Type 0
+  abbrev IsFound : (index : Option ℕ) (id : ℕ) (es : List (Entry V)) (from : ℕ) (k : Option ℕ) →
+      Type 0
   IsFound index id es from None =
       position_from (λ e. is_id id e.key) from (with_optional_ids index es) ≡ None
   IsFound index id es from (Some k) = (from ≤ k)
@@ -146,7 +148,7 @@ module _ {V : Type 0} where
       IsFound index id es from (position_from (λ e. e.key == id) from es)
   found index id [] from = refl
   found index id (e ∷ es) from =
-      by (e.key == id) refl (found (index_after index) id es (from + 1))
+      by (e.key == id) refl (found (index_in_tail index) id es (from + 1))
     where
       here : from - from ≡ 0
       here = omega arith
@@ -160,7 +162,7 @@ module _ {V : Type 0} where
       other (Some (suc k)) is = absurd (cc (is, eqb-suc-zero k))
 
       later : (o : Option ℕ) → (e.key == id) ≡ false →
-          IsFound (index_after index) id es (from + 1) o → IsFound index id (e ∷ es) from o
+          IsFound (index_in_tail index) id es (from + 1) o → IsFound index id (e ∷ es) from o
       later None apart rest = rw (first-not index id e.key apart) rest
       later (Some k) apart rest =
           let up : k - from ≡ suc (k - (from + 1)) = omega (arith, rest.0) in
@@ -172,7 +174,7 @@ module _ {V : Type 0} where
           )
 
       by : (b : Bool) → (e.key == id) ≡ b →
-          IsFound (index_after index) id es (from + 1)
+          IsFound (index_in_tail index) id es (from + 1)
           (position_from (λ e. e.key == id) (from + 1) es) →
           IsFound index id (e ∷ es) from (position_from (λ e. e.key == id) from (e ∷ es))
       by true is rest = rw is (
@@ -212,7 +214,7 @@ module _ {V : Type 0} where
   optional-push None [] key v within = refl
   optional-push (Some k) [] key v within = absurd (omega (arith, within))
   optional-push index (e ∷ es) key v within =
-      rw (optional-push (index_after index) es key v (within-after index (length es) within)) refl
+      rw (optional-push (index_in_tail index) es key v (within-after index (length es) within)) refl
 
   pub optional-push-without : (es : List (Entry V)) (key : ℕ) (v : V) →
       with_optional_ids (Some (length es)) (es ++ record { key = key; value = v } ∷ [])
@@ -222,58 +224,67 @@ module _ {V : Type 0} where
 
   pub optional-remove : (index : Option ℕ) (es : List (Entry V)) (removed : ℕ) →
       removed < length es →
-      with_optional_ids (after_removal index removed) (remove es removed)
+      with_optional_ids (index_after_removal index removed) (remove es removed)
       ≡ remove (with_optional_ids index es) removed
   optional-remove index [] removed within = absurd (omega (arith, within))
   optional-remove index (e ∷ es) zero within = rw (removed-first index) refl
   optional-remove index (e ∷ es) (suc removed) within =
       let first = first-removed index removed in
-      rw (first.0, first.1, optional-remove (index_after index) es removed (omega (arith, within)))
+      rw (
+        first.0,
+        first.1,
+        optional-remove (index_in_tail index) es removed (omega (
+          arith,
+          within,
+        )),
+      )
       refl
 
   pub optional-revalued : (index : Option ℕ) (es : List (Entry V)) (k : ℕ) (v : V) →
-      with_optional_ids index (by_ids.revalued es k v) ≡ revalued (with_optional_ids index es) k v
+      with_optional_ids index (by_ids.replace_value es k v) ≡ replace_value
+      (with_optional_ids index es) k v
   optional-revalued index [] k v = refl
   optional-revalued index (e ∷ es) zero v = refl
   optional-revalued index (e ∷ es) (suc k) v =
-      rw (optional-revalued (index_after index) es k v) refl
+      rw (optional-revalued (index_in_tail index) es k v) refl
 
   pub length-revalued : (es : List (Entry V)) (k : ℕ) (v : V) →
-      length (by_ids.revalued es k v) ≡ length es
+      length (by_ids.replace_value es k v) ≡ length es
   length-revalued [] k v = refl
   length-revalued (e ∷ es) zero v = refl
   length-revalued (e ∷ es) (suc k) v = ap suc (length-revalued es k v)
 
 -- if the entry without an id was among the entries, it is among those that are left
 pub within-removed : (index : Option ℕ) (removed count : ℕ) → IsWithin index (count + 1) →
-    removed < count + 1 → IsWithin (after_removal index removed) count
+    removed < count + 1 → IsWithin (index_after_removal index removed) count
 within-removed None removed count within less = tt
 within-removed (Some zero) zero count within less = tt
 within-removed (Some (suc k)) zero count within less = omega (arith, within)
 within-removed (Some zero) (suc removed) count within less = omega (arith, less)
 within-removed (Some (suc k)) (suc removed) zero within less = absurd (omega (arith, less))
 within-removed (Some (suc k)) (suc removed) (suc count) within less =
-    by (after_removal (Some k) removed) refl
+    by (index_after_removal (Some k) removed) refl
     (within-removed (Some k) removed count (omega (arith, within)) (omega (arith, less)))
   where
-    by : (o : Option ℕ) → after_removal (Some k) removed ≡ o →
-        IsWithin (after_removal (Some k) removed) count →
-        IsWithin (after_removal (Some (suc k)) (suc removed)) (suc count)
+    by : (o : Option ℕ) → index_after_removal (Some k) removed ≡ o →
+        IsWithin (index_after_removal (Some k) removed) count →
+        IsWithin (index_after_removal (Some (suc k)) (suc removed)) (suc count)
     by None is rest = rw is tt
     by (Some n) is rest = rw is (omega (arith, rw is at rest))
 
 -- an index after another one is removed
-pub removed-other : (k removed : ℕ) → removed < k → after_removal (Some k) removed ≡ Some (k - 1)
+pub removed-other : (k removed : ℕ) → removed < k → index_after_removal (Some k) removed ≡ Some
+    (k - 1)
 removed-other zero removed less = absurd (omega (arith, less))
 removed-other (suc k) zero less = ap Some (omega arith)
 removed-other (suc k) (suc removed) less =
     rw (removed-other k removed (omega (arith, less))) (ap Some (omega (arith, less)))
 
-pub removed-same : (k : ℕ) → after_removal (Some k) k ≡ None
+pub removed-same : (k : ℕ) → index_after_removal (Some k) k ≡ None
 removed-same zero = refl
 removed-same (suc k) = rw (removed-same k) refl
 
-pub removed-below : (k removed : ℕ) → k < removed → after_removal (Some k) removed ≡ Some k
+pub removed-below : (k removed : ℕ) → k < removed → index_after_removal (Some k) removed ≡ Some k
 removed-below k zero less = absurd (omega (arith, less))
 removed-below zero (suc removed) less = refl
 removed-below (suc k) (suc removed) less =

@@ -23,11 +23,11 @@ entries_code {V} code =
 
 module _ {V : Type 0} where
   -- the entries after the one at this index got this value
-  abbrev pub revalued : List (Entry V) → ℕ → V → List (Entry V)
-  revalued [] index value = []
-  revalued (e ∷ es) zero value = record e { value = value } ∷ es
-  revalued (e ∷ es) (suc index) value = e ∷ revalued es index value
+  abbrev pub replace_value : (entries : List (Entry V)) (index : ℕ) (value : V) → List (Entry V)
+  replace_value [] index value = []
+  replace_value (e ∷ es) zero value = record e { value = value } ∷ es
+  replace_value (e ∷ es) (suc index) value = e ∷ replace_value es index value
 
   -- the table after the entry at this index got this value
-  abbrev pub with_value : Entries V → ℕ → V → Entries V
-  with_value r index value = record r { entries = revalued r.entries index value }
+  abbrev pub with_value : (r : Entries V) (index : ℕ) (value : V) → Entries V
+  with_value r index value = record r { entries = replace_value r.entries index value }

@@ -7,27 +7,28 @@ use Rattle.giop_entry_table.specs.declared.entry_table.Entry.{Entry}
 
 module _ {V : Type 0} where
   -- an entry and then others, if the entry's value is there; else only the others
-  abbrev pub entry_before : ℕ → Option V → List (Entry V) → List (Entry V)
-  entry_before key None rest = rest
-  entry_before key (Some value) rest = record { key = key; value = value } ∷ rest
+  abbrev pub prepend_entry_if_some : (key : ℕ) (value : Option V) (rest : List (Entry V)) →
+      List (Entry V)
+  prepend_entry_if_some key None rest = rest
+  prepend_entry_if_some key (Some value) rest = record { key = key; value = value } ∷ rest
 
   -- the entry of each id, with the value that the slab has under its number
-  abbrev pub entries_of : Slab V → List ℕ → List ℕ → List (Entry V)
+  abbrev pub entries_of : (values : Slab V) (keys numbers : List ℕ) → List (Entry V)
   entries_of values [] numbers = []
   entries_of values (key ∷ keys) [] = []
   entries_of values (key ∷ keys) (number ∷ numbers) =
-      entry_before key (get values number) (entries_of values keys numbers)
+      prepend_entry_if_some key (get values number) (entries_of values keys numbers)
 
   -- each id has a number of its own, under which the slab has a value, and the slab has no other
   -- value
-  pub record IsTied (keys numbers : List ℕ) (values : Slab V) : Type 0 where
+  pub record MatchesSlab (keys numbers : List ℕ) (values : Slab V) : Type 0 where
     pub as_many : length keys ≡ length numbers
     pub distinct : IsDistinct eqb numbers
     pub held : Each (λ number. IsSome (get values number)) numbers
     pub counted : slab_len values ≡ length numbers
 
   -- there is room for this number of entries without more memory
-  pub record HasRoom (most keys numbers : ℕ) (values : Slab V) : Type 0 where
-    pub keys_fit : most ≤ keys
-    pub numbers_fit : most ≤ numbers
+  pub record HasRoom (most id_capacity number_capacity : ℕ) (values : Slab V) : Type 0 where
+    pub keys_fit : most ≤ id_capacity
+    pub numbers_fit : most ≤ number_capacity
     pub values_fit : most ≤ values.capacity

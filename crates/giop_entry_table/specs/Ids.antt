@@ -1,21 +1,21 @@
--- What is kept of the ids of a table by their remainders (state). Each removal of an id moves the
--- ids after it up by one. So a number that was at most the index of an id when the id came is at
--- most the id's index now plus the removals since then.
+-- What is kept of the ids of a table by their remainders (state). Each removal of an id that isn't
+-- the last one moves the ids after it up by one. So a number that was at most the index of an id
+-- when the id came is at most the id's index now plus the number of these removals since then.
 use Rattle.std.specs.Prelude.{◌≡◌, ◌==◌, ◌<◌, ◌≤◌, ◌^◌, ℕ, ◌+◌, ◌%◌, List, length, get_or}
 use Rattle.std.specs.List.{count_by}
 
 -- minus the removals, the number is at most the index of each id that has this remainder
-abbrev pub IsBefore : List ℕ → ℕ → ℕ → ℕ → ℕ → Type 0
-IsBefore keys divisor removals remainder first =
+abbrev pub IsLowerBound : (keys : List ℕ) (divisor removals remainder first : ℕ) → Type 0
+IsLowerBound keys divisor removals remainder first =
     (i : ℕ) → i < length keys → get_or keys i 0 % divisor ≡ remainder → first ≤ i + removals
 
 -- for each remainder: how many ids have it, and an index before which none of them is
-pub record AreIndexed (divisor : ℕ) (keys counts firsts : List ℕ) (removals : ℕ) : Type 0 where
+pub record AreIndexedByRemainder (divisor : ℕ) (keys counts firsts : List ℕ)
+    (removals : ℕ) : Type 0 where
   pub counts_many : length counts ≡ divisor
   pub firsts_many : length firsts ≡ divisor
   pub counted : (r : ℕ) → r < divisor →
       get_or counts r 0 ≡ count_by (λ k. k % divisor == r) keys
   pub before : (r : ℕ) → r < divisor →
-      IsBefore keys divisor removals r (get_or firsts r 0)
-  pub within : (r : ℕ) → r < divisor → get_or firsts r 0 ≤ length keys + removals
+      IsLowerBound keys divisor removals r (get_or firsts r 0)
   pub range : (r : ℕ) → r < divisor → get_or firsts r 0 < 2 ^ 64

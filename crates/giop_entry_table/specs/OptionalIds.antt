@@ -10,7 +10,7 @@ pub record OptionalIdEntries (V : Type 0) : Type 0 where
   pub entries : List (OptionalIdEntry V)
 
 -- whether an entry's key is this id
-abbrev pub is_id : ℕ → Option ℕ → Bool
+abbrev pub is_id : (id : ℕ) (key : Option ℕ) → Bool
 is_id id None = false
 is_id id (Some key) = key == id
 
@@ -28,11 +28,13 @@ entries_code {V} code =
 
 module _ {V : Type 0} where
   -- the entries after the one at this index got this value
-  abbrev pub revalued : List (OptionalIdEntry V) → ℕ → V → List (OptionalIdEntry V)
-  revalued [] index value = []
-  revalued (e ∷ es) zero value = record e { value = value } ∷ es
-  revalued (e ∷ es) (suc index) value = e ∷ revalued es index value
+  abbrev pub replace_value : (optional_id_entries : List (OptionalIdEntry V)) (index : ℕ)
+      (value : V) →
+      List (OptionalIdEntry V)
+  replace_value [] index value = []
+  replace_value (e ∷ es) zero value = record e { value = value } ∷ es
+  replace_value (e ∷ es) (suc index) value = e ∷ replace_value es index value
 
   -- the table after the entry at this index got this value
-  abbrev pub with_value : OptionalIdEntries V → ℕ → V → OptionalIdEntries V
-  with_value r index value = record r { entries = revalued r.entries index value }
+  abbrev pub with_value : (r : OptionalIdEntries V) (index : ℕ) (value : V) → OptionalIdEntries V
+  with_value r index value = record r { entries = replace_value r.entries index value }

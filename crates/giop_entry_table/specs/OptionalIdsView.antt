@@ -5,33 +5,34 @@ use Rattle.giop_entry_table.specs.declared.entry_table.Entry.{Entry}
 use Rattle.giop_entry_table.specs.declared.optional_ids.OptionalIdEntry.{OptionalIdEntry}
 
 -- the key of the first entry, if this is the index of the entry without an id
-abbrev pub first_key : Option ℕ → ℕ → Option ℕ
+abbrev pub first_key : (index : Option ℕ) (key : ℕ) → Option ℕ
 first_key None key = Some key
 first_key (Some zero) key = None
 first_key (Some (suc index)) key = Some key
 
 -- the index of the entry without an id among the entries after the first one
-abbrev pub index_after : Option ℕ → Option ℕ
-index_after None = None
-index_after (Some zero) = None
-index_after (Some (suc index)) = Some index
+abbrev pub index_in_tail : (index : Option ℕ) → Option ℕ
+index_in_tail None = None
+index_in_tail (Some zero) = None
+index_in_tail (Some (suc index)) = Some index
 
 module _ {V : Type 0} where
   -- the entries, if this is the index of the one without an id
-  abbrev pub with_optional_ids : Option ℕ → List (Entry V) → List (OptionalIdEntry V)
+  abbrev pub with_optional_ids : (index : Option ℕ) (entries : List (Entry V)) →
+      List (OptionalIdEntry V)
   with_optional_ids index [] = []
   with_optional_ids index (e ∷ es) =
       record { key = first_key index e.key; value = e.value }
-      ∷ with_optional_ids (index_after index) es
+      ∷ with_optional_ids (index_in_tail index) es
 
 -- the index of the entry without an id after the entry at this index is removed: no index if it is
 -- that one
-abbrev pub after_removal : Option ℕ → ℕ → Option ℕ
-after_removal None removed = None
-after_removal (Some zero) zero = None
-after_removal (Some (suc index)) zero = Some index
-after_removal (Some zero) (suc removed) = Some zero
-after_removal (Some (suc index)) (suc removed) = up (after_removal (Some index) removed)
+abbrev pub index_after_removal : (index : Option ℕ) (removed : ℕ) → Option ℕ
+index_after_removal None removed = None
+index_after_removal (Some zero) zero = None
+index_after_removal (Some (suc index)) zero = Some index
+index_after_removal (Some zero) (suc removed) = Some zero
+index_after_removal (Some (suc index)) (suc removed) = up (index_after_removal (Some index) removed)
   where
     up : Option ℕ → Option ℕ
     up None = None

@@ -6,9 +6,10 @@ ghost use Rattle.std.specs.Option.{option_map, option_copied_mut};
 ghost use Rattle.std.specs.Borrow.{sem};
 
 use crate::ids::Ids;
-use crate::search::index_of;
+use crate::search::first_index_from;
 use slab::Slab;
 use std::alloc::{AllocError, Global};
+use std::collections::VecDeque;
 use std::marker::Model;
 
 /// A value and its id.
@@ -26,7 +27,7 @@ pub struct EntryTable<V> {
     // The id of each entry.
     ids: Ids,
     // The number under which `values` has the value of each entry.
-    numbers: Vec<usize>,
+    numbers: VecDeque<usize>,
     values: Slab<V>,
 }
 
@@ -37,16 +38,17 @@ impl<V> Model for EntryTable<V> {
 
     ghost coded = { entries_code V.code };
 
-    ghost use Rattle.std.specs.Prelude.{length, ◌≤◌, vec_capacity};
-    ghost use Rattle.giop_entry_table.specs.EntryTableView.{entries_of, IsTied, HasRoom};
+    ghost use Rattle.std.specs.Prelude.{length, ◌≤◌};
+    ghost use Rattle.std.specs.VecDeque.{deque_capacity};
+    ghost use Rattle.giop_entry_table.specs.EntryTableView.{entries_of, MatchesSlab, HasRoom};
 
     ghost view = { λ r. record {
       most = r.most;
       entries = entries_of r.values r.ids.keys.items r.numbers.items;
     } };
 
-    ghost invariant = { λ r. IsTied r.ids.keys.items r.numbers.items r.values
-        × HasRoom r.most (vec_capacity r.ids.keys) (vec_capacity r.numbers) r.values
+    ghost invariant = { λ r. MatchesSlab r.ids.keys.items r.numbers.items r.values
+        × HasRoom r.most (deque_capacity r.ids.keys) (deque_capacity r.numbers) r.values
         × (length r.numbers.items ≤ r.most) };
 }
 
@@ -61,7 +63,7 @@ impl<V> EntryTable<V> {
         Ok(EntryTable {
             most,
             ids: Ids::with_capacity(alloc, most)?,
-            numbers: Vec::with_capacity(alloc, most)?,
+            numbers: VecDeque::with_capacity(alloc, most)?,
             values: Slab::with_capacity(alloc, most)?,
         })
     }
@@ -103,7 +105,7 @@ impl<V> EntryTable<V> {
             ≡ position_from (λ e. e.key == key) (index + 1) (drop (index + 1) self.now.entries) }
         ensures within { IfSome result (λ k. k < length self.now.entries) }
     {
-        index_of(self.ids.keys.as_slice(), index + 1, key)
+        first_index_from(&self.ids.keys, index + 1, key)
     }
 
     /// The id of the entry at this index.
@@ -116,12 +118,12 @@ impl<V> EntryTable<V> {
         }
     }
 
-    /// The value of the entry at this index.
-    pub fn get(&self, index: usize) -> Option<&V>
+    /// The value of the nth oldest entry, counted from 0.
+    pub fn get(&self, nth_oldest: usize) -> Option<&V>
         ensures { option_copied result
-            ≡ option_map (λ e. e.value) (slice_get self.now.entries index) }
+            ≡ option_map (λ e. e.value) (slice_get self.now.entries nth_oldest) }
     {
-        match self.numbers.get(index) {
+        match self.numbers.get(nth_oldest) {
             Some(number) => self.values.get(*number),
             None => None,
         }
@@ -159,23 +161,23 @@ impl<V> EntryTable<V> {
         ensures most { self.new.most ≡ self.old.most }
     {
         let number = self.values.insert_reserved(value);
-        self.numbers.push_reserved(number);
+        self.numbers.push_back_reserved(number);
         self.ids.push_reserved(key);
     }
 
-    /// Removes the entry at this index and returns it. The entries after it move up.
-    pub fn take(&mut self, index: usize) -> Option<Entry<V>>
-        ensures value { result ≡ slice_get self.old.entries index }
-        ensures variant { IsSome result ↔ (index < length self.old.entries) }
-        ensures entries { OnSome result (self.new.entries ≡ remove self.old.entries index) }
+    /// Removes the nth oldest entry, counted from 0, and returns it. The entries after it move up.
+    pub fn take(&mut self, nth_oldest: usize) -> Option<Entry<V>>
+        ensures value { result ≡ slice_get self.old.entries nth_oldest }
+        ensures variant { IsSome result ↔ (nth_oldest < length self.old.entries) }
+        ensures entries { OnSome result (self.new.entries ≡ remove self.old.entries nth_oldest) }
         ensures len { OnSome result
             (length self.new.entries + 1 ≡ length self.old.entries) }
         ensures none { IfNone result (self.new ≡ self.old) }
         ensures most { self.new.most ≡ self.old.most }
     {
-        match self.key(index) {
+        match self.key(nth_oldest) {
             Some(key) => {
-                let value = self.remove(index);
+                let value = self.remove(nth_oldest);
                 Some(Entry { key, value })
             }
             None => None,
@@ -183,7 +185,7 @@ impl<V> EntryTable<V> {
     }
 
     /// Removes the entry at this index and returns its value. There must be such an entry. The entries after it move up.
-    #[inline]
+    #[inline(always)]
     pub fn remove(&mut self, index: usize) -> V
         requires { index < length self.old.entries }
         ensures value { option_map (λ e. e.value) (slice_get self.old.entries index)
@@ -193,8 +195,10 @@ impl<V> EntryTable<V> {
         ensures most { self.new.most ≡ self.old.most }
     {
         self.ids.remove(index);
-        let number = self.numbers.remove(index);
-        self.values.remove(number)
+        match self.numbers.remove(index) {
+            Some(number) => self.values.remove(number),
+            None => unreachable!(),
+        }
     }
 
     /// Drops all entries, and keeps the memory.

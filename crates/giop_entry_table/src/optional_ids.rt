@@ -5,7 +5,7 @@ ghost use Rattle.std.specs.List.{remove, position_from};
 ghost use Rattle.std.specs.Option.{option_map, option_copied_mut};
 ghost use Rattle.std.specs.Borrow.{sem};
 ghost use Rattle.giop_entry_table.specs.OptionalIds.{is_id};
-ghost use Rattle.giop_entry_table.specs.OptionalIdsView.{after_removal};
+ghost use Rattle.giop_entry_table.specs.OptionalIdsView.{index_after_removal};
 
 use crate::entry_table::EntryTable;
 use std::alloc::{AllocError, Global};
@@ -59,8 +59,8 @@ fn is_at(entry: Option<usize>, index: usize) -> bool
 }
 
 /// The index of an entry after one is removed; none if it is that one.
-fn moved(entry: Option<usize>, removed: usize) -> Option<usize>
-    ensures { result ≡ after_removal entry removed }
+fn index_after_removal(entry: Option<usize>, removed: usize) -> Option<usize>
+    ensures { result ≡ index_after_removal entry removed }
 {
     match entry {
         Some(index) if index == removed => None,
@@ -147,12 +147,12 @@ impl<V> OptionalIdTable<V> {
         }
     }
 
-    /// The value of the entry at this index.
-    pub fn get(&self, index: usize) -> Option<&V>
+    /// The value of the nth oldest entry, counted from 0.
+    pub fn get(&self, nth_oldest: usize) -> Option<&V>
         ensures { option_copied result
-            ≡ option_map (λ e. e.value) (slice_get self.now.entries index) }
+            ≡ option_map (λ e. e.value) (slice_get self.now.entries nth_oldest) }
     {
-        self.table.get(index)
+        self.table.get(nth_oldest)
     }
 
     /// The value of the entry at this index, for writing.
@@ -189,19 +189,19 @@ impl<V> OptionalIdTable<V> {
         self.table.add(STAND_IN, value);
     }
 
-    /// Removes the entry at this index and returns it. The entries after it move up.
-    pub fn take(&mut self, index: usize) -> Option<OptionalIdEntry<V>>
-        ensures value { result ≡ slice_get self.old.entries index }
-        ensures variant { IsSome result ↔ (index < length self.old.entries) }
-        ensures entries { OnSome result (self.new.entries ≡ remove self.old.entries index) }
+    /// Removes the nth oldest entry, counted from 0, and returns it. The entries after it move up.
+    pub fn take(&mut self, nth_oldest: usize) -> Option<OptionalIdEntry<V>>
+        ensures value { result ≡ slice_get self.old.entries nth_oldest }
+        ensures variant { IsSome result ↔ (nth_oldest < length self.old.entries) }
+        ensures entries { OnSome result (self.new.entries ≡ remove self.old.entries nth_oldest) }
         ensures len { OnSome result
             (length self.new.entries + 1 ≡ length self.old.entries) }
         ensures none { IfNone result (self.new ≡ self.old) }
         ensures most { self.new.most ≡ self.old.most }
     {
-        match self.key(index) {
+        match self.key(nth_oldest) {
             Some(key) => {
-                let value = self.remove(index);
+                let value = self.remove(nth_oldest);
                 Some(OptionalIdEntry { key, value })
             }
             None => None,
@@ -209,6 +209,8 @@ impl<V> OptionalIdTable<V> {
     }
 
     /// Removes the entry at this index and returns its value. There must be such an entry. The entries after it move up.
+    // It is inlined, so that no value is moved for a caller that drops it.
+    #[inline(always)]
     pub fn remove(&mut self, index: usize) -> V
         requires { index < length self.old.entries }
         ensures value { option_map (λ e. e.value) (slice_get self.old.entries index)
@@ -217,7 +219,7 @@ impl<V> OptionalIdTable<V> {
         ensures len { length self.new.entries + 1 ≡ length self.old.entries }
         ensures most { self.new.most ≡ self.old.most }
     {
-        let without_id = moved(self.without_id, index);
+        let without_id = index_after_removal(self.without_id, index);
         self.without_id = without_id;
         self.table.remove(index)
     }

@@ -4,7 +4,7 @@ use clap::builder::ValueParser;
 use clap::{Arg, ArgAction, ArgMatches, Command, Error};
 use giop_json_messages::{HOLD_MAX, Settings};
 use giop_json_values::{Characters, Options};
-use giop_run::marked;
+use giop_run::words_with_stand_ins;
 use std::alloc::{AllocError, Global};
 
 /// How many KiB of text are held if no argument says it.
@@ -92,7 +92,7 @@ impl<'a> Arguments<'a> {
     /// status. It is also the answer to `--help` and `--version`, with status 0.
     pub(crate) fn read(alloc: Global, words: &'a [String]) -> Result<Arguments<'a>, Error> {
         // If something is wrong with the words, the error's text is made of the marked words.
-        command(alloc)?.try_get_matches_from(marked(alloc, words)?.as_slice())?;
+        command(alloc)?.try_get_matches_from(words_with_stand_ins(alloc, words)?.as_slice())?;
         let matches = command(alloc)?.try_get_matches_from(words)?;
         Ok(Arguments {
             settings: settings_of(&matches),

@@ -4,7 +4,7 @@ ghost use Rattle.std.specs.Prelude.{◌≤◌};
 
 use crate::arguments::Arguments;
 use giop_json_messages::{Calls, Messages};
-use giop_run::{failed, refused, words};
+use giop_run::{command_line_words, print_clap_error, print_fault};
 use giop_views::run_view;
 
 /// The program's name, with which each message on standard error begins.
@@ -14,18 +14,18 @@ const PROGRAM: &str = "giop-json";
 pub(crate) fn program(rt: &HostRuntime) -> u8
     ensures { result ≤ 5 }
 {
-    let words = match words(rt) {
+    let words = match command_line_words(rt) {
         Ok(words) => words,
-        Err(fault) => return failed(rt, PROGRAM, &fault),
+        Err(fault) => return print_fault(rt, PROGRAM, &fault),
     };
     match Arguments::read(rt.alloc(), words.as_slice()) {
-        Err(error) => refused(rt, PROGRAM, &error),
-        Ok(asked) => view(rt, asked),
+        Err(error) => print_clap_error(rt, PROGRAM, &error),
+        Ok(asked) => run_asked(rt, asked),
     }
 }
 
 /// Takes the steps after the words of the command line. Returns the program's status.
-fn view(rt: &HostRuntime, asked: Arguments<'_>) -> u8
+fn run_asked(rt: &HostRuntime, asked: Arguments<'_>) -> u8
     ensures { result ≤ 5 }
 {
     if asked.are_calls {

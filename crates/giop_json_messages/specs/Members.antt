@@ -2,6 +2,6 @@
 use Rattle.std.specs.Prelude.{ℕ, Bool, false, ◌==◌, List, [], ◌∷◌}
 
 -- whether a member comes first, and not the end of the object
-abbrev pub begins_member : List ℕ → Bool
+abbrev pub begins_member : (text : List ℕ) → Bool
 begins_member [] = false
 begins_member (b ∷ bs) = b == 34

@@ -2,14 +2,14 @@
 
 ghost use Rattle.std.specs.Prelude.{◌≡◌, Some, IfSome};
 
-use crate::half::Half;
-use crate::objects::{Room, Settings, put_ascii};
+use crate::half::CallHalf;
+use crate::objects::{ReusedBuffer, Settings, put_json_in_ascii};
 use crate::rows::Call;
-use giop_lines::{Said, Value};
+use giop_lines::{Statement, Value};
 use giop_print::Out;
 use giop_view_parts::{
-    Ending, Key, Kind, Maker, Message, Notice, Of, Open, OwnKey, Place, Pool, Stream, Streams,
-    ViewError, greater,
+    ConnectionEnding, ConnectionId, Key, Kind, Maker, Message, Notice, Open, OwnKey, Pool, Stream,
+    Streams, ViewError, WaitingKey, greater_rank,
 };
 use std::alloc::{AllocError, Global};
 use std::collections::BTreeMap;
@@ -18,8 +18,8 @@ use std::collections::BTreeMap;
 #[derive(Drop)]
 struct CallKey;
 
-impl Place for CallKey {
-    ghost place = { λ _ answered. answered };
+impl WaitingKey for CallKey {
+    ghost waiting_key = { λ _ answered. answered };
 }
 
 /// Writes an object for each call.
@@ -27,14 +27,14 @@ impl Place for CallKey {
 pub struct Calls {
     alloc: Global,
     settings: Settings,
-    room: Room,
+    room: ReusedBuffer,
     // The room for the members after those of the bodies.
-    back: Room,
+    back: ReusedBuffer,
     // The Requests that wait for their replies. They can also be found by their connections and by when they began.
-    waiting: Pool<Half, OwnKey>,
+    waiting: Pool<CallHalf, OwnKey>,
     by_connection: BTreeMap<(u64, u64), Key>,
     // The Replies that were over before their calls, under the keys of the calls.
-    early: Pool<Half, CallKey>,
+    early: Pool<CallHalf, CallKey>,
     cut: u64,
 }
 
@@ -44,8 +44,8 @@ impl Calls {
         Calls {
             alloc,
             settings,
-            room: Room::new(alloc),
-            back: Room::new(alloc),
+            room: ReusedBuffer::new(alloc),
+            back: ReusedBuffer::new(alloc),
             waiting: Pool::new(alloc),
             by_connection: BTreeMap::new(alloc),
             early: Pool::new(alloc),
@@ -57,34 +57,34 @@ impl Calls {
     fn put_call<O: Out>(
         &mut self,
         out: &mut O,
-        open: &mut Open<Half>,
-        request: Option<Box<Message<Half>>>,
-        reply: Option<Box<Message<Half>>>,
+        open: &mut Open<CallHalf>,
+        request: Option<Box<Message<CallHalf>>>,
+        reply: Option<Box<Message<CallHalf>>>,
     ) -> Result<(), ViewError>
         // The Reply answers the Request.
         requires { IfSome request (λ q. IfSome reply (λ r.
             r.value.facts.answers ≡ Some q.value.key)) }
     {
         let call = Call {
-            request: half_of(&request),
-            reply: half_of(&reply),
+            request: borrowed_message(&request),
+            reply: borrowed_message(&reply),
         };
         if call.is_dropped() {
             self.cut = self.cut.saturating_add(1);
         }
-        self.put_row(out, call)?;
+        self.put_call_object(out, call)?;
         if let Some(message) = request {
-            open.give_room(message)?;
+            open.keep_spare(message)?;
         }
         if let Some(message) = reply {
-            open.give_room(message)?;
+            open.keep_spare(message)?;
         }
         Ok(())
     }
 
-    fn put_row<O: Out>(&mut self, out: &mut O, call: Call<'_>) -> Result<(), ViewError> {
-        let mut front = self.room.text();
-        call.put_front(self.alloc, &mut front, self.settings.options.characters)?;
+    fn put_call_object<O: Out>(&mut self, out: &mut O, call: Call<'_>) -> Result<(), ViewError> {
+        let mut front = self.room.begin_text();
+        call.put_members_before_bodies(self.alloc, &mut front, self.settings.options.characters)?;
         let mut row = front.into_octets();
         for (name, body) in call.bodies() {
             row.extend_from_slice(b",\"")?;
@@ -93,14 +93,14 @@ impl Calls {
             row.extend_from_slice(if body.is_empty() { b"null" } else { body })?;
         }
         row.push(b',')?;
-        let mut back = self.back.text();
-        call.put_back(&mut back)?;
+        let mut back = self.back.begin_text();
+        call.put_members_after_bodies(&mut back)?;
         let back = back.into_octets();
         row.extend_from_slice(&back)?;
-        self.back.give(back);
+        self.back.take_back(back);
         row.push(b'\n')?;
-        put_ascii(out, &row)?;
-        self.room.give(row);
+        put_json_in_ascii(out, &row)?;
+        self.room.take_back(row);
         Ok(())
     }
 
@@ -108,8 +108,8 @@ impl Calls {
     fn end_request<O: Out>(
         &mut self,
         out: &mut O,
-        open: &mut Open<Half>,
-        request: Box<Message<Half>>,
+        open: &mut Open<CallHalf>,
+        request: Box<Message<CallHalf>>,
     ) -> Result<(), ViewError> {
         let key = request.key;
         if key.stream == 0 || request.facts.is_oneway {
@@ -118,13 +118,14 @@ impl Calls {
         if let Some(reply) = self.early.remove(key) {
             return self.put_call(out, open, Some(request), Some(reply));
         }
-        if let Some(other) = self.take_call(key) {
+        if let Some(other) = self.take_waiting_request(key) {
             self.put_call(out, open, Some(other), None)?;
         }
         let mut request = request;
-        request.own.wait(open.spare());
-        if let Some(of) = request.own.connection {
-            self.by_connection.insert((of.id, request.order), key)?;
+        request.own.give_up_buffers(open.spare_message());
+        if let Some(connection) = request.own.connection {
+            self.by_connection
+                .insert((connection.id, request.order), key)?;
         }
         self.waiting.insert(key, request)?;
         Ok(())
@@ -134,51 +135,51 @@ impl Calls {
     fn end_reply<O: Out>(
         &mut self,
         out: &mut O,
-        open: &mut Open<Half>,
-        reply: Box<Message<Half>>,
+        open: &mut Open<CallHalf>,
+        reply: Box<Message<CallHalf>>,
     ) -> Result<(), ViewError> {
         let Some(key) = reply.facts.answers else {
             return self.put_call(out, open, None, Some(reply));
         };
-        if let Some(request) = self.take_call(key) {
+        if let Some(request) = self.take_waiting_request(key) {
             return self.put_call(out, open, Some(request), Some(reply));
         }
         if !open.contains(key) || self.early.contains(key) {
             return self.put_call(out, open, None, Some(reply));
         }
         let mut reply = reply;
-        reply.own.wait(open.spare());
+        reply.own.give_up_buffers(open.spare_message());
         self.early.insert(key, reply)?;
         Ok(())
     }
 
     /// Takes a Request that waits.
-    fn take_call(&mut self, key: Key) -> Option<Box<Message<Half>>>
+    fn take_waiting_request(&mut self, key: Key) -> Option<Box<Message<CallHalf>>>
         ensures { IfSome result (λ q. q.value.key ≡ key) }
     {
         let request = self.waiting.remove(key)?;
-        if let Some(of) = request.own.connection {
-            let _ = self.by_connection.remove(&(of.id, request.order));
+        if let Some(connection) = request.own.connection {
+            let _ = self.by_connection.remove(&(connection.id, request.order));
         }
         Some(request)
     }
 
     /// Writes the calls of a connection that wait, the oldest first.
-    fn end_connection<O: Out>(
+    fn put_calls_of_connection<O: Out>(
         &mut self,
         out: &mut O,
-        open: &mut Open<Half>,
-        of: Of,
+        open: &mut Open<CallHalf>,
+        connection: ConnectionId,
     ) -> Result<(), ViewError> {
         for _ in 0..self.waiting.len() {
-            let Some((place, key)) = self.by_connection.range((of.id, 0)..).next() else {
+            let Some((place, key)) = self.by_connection.range((connection.id, 0)..).next() else {
                 break;
             };
             let (id, key) = (place.0, *key);
-            if id != of.id {
+            if id != connection.id {
                 break;
             }
-            match self.take_call(key) {
+            match self.take_waiting_request(key) {
                 None => break,
                 Some(request) => self.put_call(out, open, Some(request), None)?,
             }
@@ -187,9 +188,13 @@ impl Calls {
     }
 
     /// Drops the longest text that is held. Returns whether there was any.
-    fn drop_text(&mut self, open: &mut Open<Half>) -> Result<bool, AllocError> {
-        let (of_open, of_waiting, of_early) = (open.most(), self.waiting.most(), self.early.most());
-        let most = greater(greater(of_open, of_waiting), of_early);
+    fn drop_longest_text(&mut self, open: &mut Open<CallHalf>) -> Result<bool, AllocError> {
+        let (of_open, of_waiting, of_early) = (
+            open.most_text(),
+            self.waiting.most_text(),
+            self.early.most_text(),
+        );
+        let most = greater_rank(greater_rank(of_open, of_waiting), of_early);
         let Some((_, key)) = most else {
             return Ok(false);
         };
@@ -210,15 +215,15 @@ impl Calls {
     }
 
     /// Writes the oldest call that waits, because there is no room for it. Returns whether there was one.
-    fn put_oldest<O: Out>(
+    fn put_oldest_request<O: Out>(
         &mut self,
         out: &mut O,
-        open: &mut Open<Half>,
+        open: &mut Open<CallHalf>,
     ) -> Result<bool, ViewError> {
-        let Some(key) = self.waiting.first() else {
+        let Some(key) = self.waiting.first_begun() else {
             return Ok(false);
         };
-        if let Some(mut request) = self.take_call(key) {
+        if let Some(mut request) = self.take_waiting_request(key) {
             request.own.drop_text();
             self.put_call(out, open, Some(request), None)?;
         }
@@ -227,45 +232,49 @@ impl Calls {
 }
 
 impl Maker for Calls {
-    type Own = Half;
+    type ViewData = CallHalf;
 
     #[inline]
     fn take_value(
         &mut self,
-        message: &mut Message<Half>,
+        message: &mut Message<CallHalf>,
         path: &[u8],
         value: Value<'_>,
     ) -> Result<(), AllocError> {
         message.own.take_value(self.settings.options, path, value)
     }
 
-    fn take_more(&mut self, message: &mut Message<Half>, said: Said<'_>) -> Result<(), AllocError> {
-        message.own.take_rest(said)
+    fn take_rest_or_later(
+        &mut self,
+        message: &mut Message<CallHalf>,
+        said: Statement<'_>,
+    ) -> Result<(), AllocError> {
+        message.own.take_after_body(said)
     }
 
     fn end_message<O: Out>(
         &mut self,
         out: &mut O,
         streams: &Streams,
-        open: &mut Open<Half>,
-        message: Box<Message<Half>>,
+        open: &mut Open<CallHalf>,
+        message: Box<Message<CallHalf>>,
     ) -> Result<(), ViewError> {
         let mut message = message;
         let kind = message.facts.kind();
         let stream = streams.get(message.key.stream);
-        message.own.end(stream)?;
+        message.own.finish_body(stream)?;
         match kind {
             Kind::Request => self.end_request(out, open, message),
             Kind::Reply => self.end_reply(out, open, message),
-            _ => Ok(open.give_room(message)?),
+            _ => Ok(open.keep_spare(message)?),
         }
     }
 
-    fn take_of_stream<O: Out>(
+    fn take_stream_line<O: Out>(
         &mut self,
         _out: &mut O,
         _stream: &Stream,
-        _said: Said<'_>,
+        _said: Statement<'_>,
     ) -> Result<(), ViewError> {
         Ok(())
     }
@@ -274,26 +283,28 @@ impl Maker for Calls {
         &mut self,
         out: &mut O,
         stream: &Stream,
-        ending: Ending,
-        open: &mut Open<Half>,
+        ending: ConnectionEnding,
+        open: &mut Open<CallHalf>,
     ) -> Result<(), ViewError> {
         match stream.connection {
-            Some(of) if ending.is_end() => self.end_connection(out, open, of),
+            Some(connection) if ending.ends_connection() => self.put_calls_of_connection(
+                out, open, connection,
+            ),
             _ => Ok(()),
         }
     }
 
-    fn finish<O: Out>(&mut self, out: &mut O, open: &mut Open<Half>) -> Result<(), ViewError> {
+    fn finish<O: Out>(&mut self, out: &mut O, open: &mut Open<CallHalf>) -> Result<(), ViewError> {
         for _ in 0..self.waiting.len() {
-            let Some(key) = self.waiting.first() else {
+            let Some(key) = self.waiting.first_begun() else {
                 break;
             };
-            if let Some(request) = self.take_call(key) {
+            if let Some(request) = self.take_waiting_request(key) {
                 self.put_call(out, open, Some(request), None)?;
             }
         }
         for _ in 0..self.early.len() {
-            let Some(key) = self.early.first() else {
+            let Some(key) = self.early.first_begun() else {
                 break;
             };
             if let Some(reply) = self.early.remove(key) {
@@ -304,20 +315,23 @@ impl Maker for Calls {
     }
 
     #[inline]
-    fn is_full(&self, open: u64) -> bool {
-        let held = self.waiting.held().saturating_add(self.early.held());
-        self.settings.is_full(open.saturating_add(held))
+    fn holds_too_much(&self, open_octets: u64) -> bool {
+        let held = self
+            .waiting
+            .held_octets()
+            .saturating_add(self.early.held_octets());
+        self.settings.is_over_hold(open_octets.saturating_add(held))
     }
 
-    fn make_room<O: Out>(
+    fn reduce_held_text<O: Out>(
         &mut self,
         out: &mut O,
         _streams: &Streams,
-        open: &mut Open<Half>,
+        open: &mut Open<CallHalf>,
     ) -> Result<(), ViewError> {
         for _ in 0..u64::MAX {
-            let has_more = self.is_full(open.held())
-                && (self.drop_text(open)? || self.put_oldest(out, open)?);
+            let has_more = self.holds_too_much(open.held_octets())
+                && (self.drop_longest_text(open)? || self.put_oldest_request(out, open)?);
             if !has_more {
                 break;
             }
@@ -336,7 +350,7 @@ impl Maker for Calls {
 }
 
 /// Drops the text of the message under this key.
-fn drop_text_of<P: Place>(pool: &mut Pool<Half, P>, key: Key) -> Result<(), AllocError> {
+fn drop_text_of<P: WaitingKey>(pool: &mut Pool<CallHalf, P>, key: Key) -> Result<(), AllocError> {
     let Some(mut message) = pool.remove(key) else {
         return Ok(());
     };
@@ -345,7 +359,7 @@ fn drop_text_of<P: Place>(pool: &mut Pool<Half, P>, key: Key) -> Result<(), Allo
 }
 
 /// The message, if it is known.
-fn half_of(message: &Option<Box<Message<Half>>>) -> Option<&Message<Half>> {
+fn borrowed_message(message: &Option<Box<Message<CallHalf>>>) -> Option<&Message<CallHalf>> {
     match message {
         None => None,
         Some(message) => Some(message),

@@ -1,8 +1,8 @@
 //! What is kept of a Request or a Reply for the object of its call.
 
 use giop_json_values::{Options, Values};
-use giop_lines::{Content, Said, Value};
-use giop_view_parts::{Message, Of, Own, Stream, replace};
+use giop_lines::{Content, Statement, Value};
+use giop_view_parts::{ConnectionId, Message, Stream, ViewData, replace_octets};
 use std::alloc::{AllocError, Global};
 use std::mem;
 
@@ -11,7 +11,7 @@ const OBJECT_MAX: usize = 128;
 
 /// The body and the rest of a message, and which stream and connection it is of.
 #[derive(Drop)]
-pub struct Half {
+pub struct CallHalf {
     alloc: Global,
     values: Values,
     /// The value of the body, after the message is over. It is empty if there is none.
@@ -27,12 +27,12 @@ pub struct Half {
     pub(crate) is_dropped: bool,
     pub(crate) source: Vec<u8>,
     pub(crate) target: Vec<u8>,
-    pub(crate) connection: Option<Of>,
+    pub(crate) connection: Option<ConnectionId>,
 }
 
-impl Own for Half {
-    fn new(alloc: Global) -> Half {
-        Half {
+impl ViewData for CallHalf {
+    fn new(alloc: Global) -> CallHalf {
+        CallHalf {
             alloc,
             values: Values::new(alloc),
             body: Vec::new(alloc),
@@ -48,7 +48,7 @@ impl Own for Half {
     }
 
     fn clear(&mut self) {
-        self.values.forget();
+        self.values.forget_message();
         self.body = Vec::new(self.alloc);
         self.rest = Vec::new(self.alloc);
         self.rest_end = 0;
@@ -60,13 +60,13 @@ impl Own for Half {
         self.connection = None;
     }
 
-    fn size(&self) -> u64 {
+    fn text_octets(&self) -> u64 {
         let texts = self.body.len().saturating_add(self.rest.len());
         self.values.size().saturating_add(texts as u64)
     }
 }
 
-impl Half {
+impl CallHalf {
     /// Takes a value.
     #[inline]
     pub(crate) fn take_value(
@@ -80,7 +80,7 @@ impl Half {
                 return Ok(());
             }
             self.rest_end = 0;
-            return self.values.take(options, path, value);
+            return self.values.take_value(options, path, value);
         }
         if let Value::Piece(piece) = value
             && !matches!(piece.content, Content::Text | Content::Rest)
@@ -93,8 +93,8 @@ impl Half {
     }
 
     /// Takes a piece of what the message has after its body.
-    pub(crate) fn take_rest(&mut self, said: Said<'_>) -> Result<(), AllocError> {
-        let Said::Rest(offset, octets) = said else {
+    pub(crate) fn take_after_body(&mut self, said: Statement<'_>) -> Result<(), AllocError> {
+        let Statement::Rest(offset, octets) = said else {
             return Ok(());
         };
         if self.is_dropped {
@@ -109,22 +109,22 @@ impl Half {
     }
 
     /// Takes the end of the message, with its stream. The body is as complete as its lines came.
-    pub(crate) fn end(&mut self, stream: Option<&Stream>) -> Result<(), AllocError> {
+    pub(crate) fn finish_body(&mut self, stream: Option<&Stream>) -> Result<(), AllocError> {
         if let Some(stream) = stream {
-            replace(&mut self.source, &stream.source)?;
-            replace(&mut self.target, &stream.target)?;
+            replace_octets(&mut self.source, &stream.source)?;
+            replace_octets(&mut self.target, &stream.target)?;
             self.connection = stream.connection;
         }
-        self.lacks |= self.values.lacks();
-        let _ = self.values.close()?;
+        self.lacks |= self.values.lacks_lines();
+        let _ = self.values.close_values()?;
         let text = self.values.take_text(self.alloc);
         self.body = Vec::from_slice(self.alloc, last_value(&text))?;
-        self.values.give_room(text);
+        self.values.reuse_buffer(text);
         Ok(())
     }
 
     /// Keeps only the room of what the message holds, because it waits. `other` may have the rest of the room.
-    pub(crate) fn wait(&mut self, other: Option<&mut Message<Half>>) {
+    pub(crate) fn give_up_buffers(&mut self, other: Option<&mut Message<CallHalf>>) {
         let room = mem::replace(&mut self.values, Values::new(self.alloc));
         if let Some(message) = other {
             message.own.values = room;
@@ -145,7 +145,7 @@ impl Half {
     }
 
     /// The object key in hexadecimal digits. It is empty if no key came, or if the key is too long.
-    pub(crate) fn object(&self) -> &[u8] {
+    pub(crate) fn object_key_digits(&self) -> &[u8] {
         if self.object.len() > 2 * OBJECT_MAX {
             return b"";
         }

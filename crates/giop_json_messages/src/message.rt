@@ -1,15 +1,15 @@
 //! What is kept of a message for its object.
 
-use crate::objects::put_later;
+use crate::objects::put_later_lines;
 use giop_cdr::Order;
-use giop_json_values::{Options, Text, Values};
-use giop_lines::{Said, Value};
-use giop_view_parts::{Facts, Header, Key, Message, Own, replace};
+use giop_json_values::{JsonText, Options, Values};
+use giop_lines::{Statement, Value};
+use giop_view_parts::{Facts, Header, Key, Message, ViewData, replace_octets};
 use std::alloc::{AllocError, Global};
 
 /// The values of a message, and where the part that is held begins.
 #[derive(Drop)]
-pub struct Parts {
+pub struct MessageParts {
     pub(crate) values: Values,
     /// How many parts the message has, with the one that is held.
     pub(crate) parts: u64,
@@ -21,9 +21,9 @@ pub struct Parts {
     later_size: u64,
 }
 
-impl Own for Parts {
-    fn new(alloc: Global) -> Parts {
-        Parts {
+impl ViewData for MessageParts {
+    fn new(alloc: Global) -> MessageParts {
+        MessageParts {
             values: Values::new(alloc),
             parts: 1,
             at: Vec::new(alloc),
@@ -34,17 +34,17 @@ impl Own for Parts {
     }
 
     fn clear(&mut self) {
-        self.values.forget();
+        self.values.forget_message();
         self.parts = 0;
-        self.next_part();
+        self.begin_next_part();
     }
 
-    fn size(&self) -> u64 {
+    fn text_octets(&self) -> u64 {
         self.values.size().saturating_add(self.later_size)
     }
 }
 
-impl Parts {
+impl MessageParts {
     /// Takes a line of a value.
     #[inline]
     pub(crate) fn take_value(
@@ -55,42 +55,46 @@ impl Parts {
     ) -> Result<(), AllocError> {
         // A part begins with the first value that isn't left out.
         if self.parts == 1 || !self.at.is_empty() || self.values.leaves_out(options, path, value) {
-            return self.values.take(options, path, value);
+            return self.values.take_value(options, path, value);
         }
         let offset = match value {
             Value::Piece(piece) => u64::from(piece.offset),
             _ => 0,
         };
-        self.begin_part(path, offset)?;
-        let lacks = self.values.lacks();
-        self.values.take(options, path, value)?;
-        self.values.set_lacks(lacks);
+        self.note_part_start(path, offset)?;
+        let lacks = self.values.lacks_lines();
+        self.values.take_value(options, path, value)?;
+        self.values.set_lacks_lines(lacks);
         Ok(())
     }
 
     /// Takes what the message has after its body, or a line of a later version.
-    pub(crate) fn take_more(&mut self, key: Key, said: Said<'_>) -> Result<(), AllocError> {
+    pub(crate) fn take_rest_or_later(
+        &mut self,
+        key: Key,
+        said: Statement<'_>,
+    ) -> Result<(), AllocError> {
         match said {
-            Said::Rest(offset, octets) => self.take_rest(offset, octets),
-            Said::Later(text) => self.take_later(key, text),
+            Statement::Rest(offset, octets) => self.take_after_body(offset, octets),
+            Statement::Later(text) => self.take_later_line(key, text),
             _ => Ok(()),
         }
     }
 
-    fn take_rest(&mut self, offset: u64, octets: &[u8]) -> Result<(), AllocError> {
+    fn take_after_body(&mut self, offset: u64, octets: &[u8]) -> Result<(), AllocError> {
         if self.parts == 1 || !self.at.is_empty() {
-            return self.values.take_rest(offset, octets);
+            return self.values.take_after_body(offset, octets);
         }
-        self.begin_part(b"rest", offset)?;
-        let lacks = self.values.lacks();
-        self.values.take_rest(offset, octets)?;
-        self.values.set_lacks(lacks);
+        self.note_part_start(b"rest", offset)?;
+        let lacks = self.values.lacks_lines();
+        self.values.take_after_body(offset, octets)?;
+        self.values.set_lacks_lines(lacks);
         Ok(())
     }
 
-    fn take_later(&mut self, key: Key, text: &[u8]) -> Result<(), AllocError> {
+    fn take_later_line(&mut self, key: Key, text: &[u8]) -> Result<(), AllocError> {
         let start = self.later.len();
-        put_later_line(&mut self.later, key, text)?;
+        append_later_line(&mut self.later, key, text)?;
         let size = self.later.len().saturating_sub(start) as u64;
         self.later_size = self.later_size.saturating_add(size);
         self.later.push(b'\n')?;
@@ -98,13 +102,13 @@ impl Parts {
     }
 
     /// Notes where a part begins.
-    fn begin_part(&mut self, path: &[u8], offset: u64) -> Result<(), AllocError> {
+    fn note_part_start(&mut self, path: &[u8], offset: u64) -> Result<(), AllocError> {
         self.offset = offset;
-        replace(&mut self.at, path)
+        replace_octets(&mut self.at, path)
     }
 
     /// Begins the next part: nothing is held.
-    pub(crate) fn next_part(&mut self) {
+    pub(crate) fn begin_next_part(&mut self) {
         self.parts = self.parts.saturating_add(1);
         self.at.clear();
         self.offset = 0;
@@ -114,43 +118,43 @@ impl Parts {
 }
 
 /// Writes what comes before the values of a message.
-pub(crate) fn put_front(
-    text: &mut Text,
-    message: &Message<Parts>,
+pub(crate) fn put_members_before_values(
+    text: &mut JsonText,
+    message: &Message<MessageParts>,
     is_last: bool,
 ) -> Result<(), AllocError> {
     let own = &message.own;
-    text.total("message", message.key.number)?;
+    text.number_member("message", message.key.number)?;
     if own.parts > 1 || !is_last {
-        text.total("part", own.parts)?;
+        text.number_member("part", own.parts)?;
     }
     if own.parts > 1 {
         if is_last {
-            text.total("parts", own.parts)?;
+            text.number_member("parts", own.parts)?;
         }
-        text.known("at", &own.at)?;
-        text.ordinal("offset", own.offset)?;
+        text.text_member_if_known("at", &own.at)?;
+        text.number_member_if_known("offset", own.offset)?;
     }
     put_facts(text, &message.facts)
 }
 
 /// Writes the members for what the lines of a message say in addition to its values.
-fn put_facts(text: &mut Text, facts: &Facts) -> Result<(), AllocError> {
+fn put_facts(text: &mut JsonText, facts: &Facts) -> Result<(), AllocError> {
     if let Some(header) = facts.header {
         put_header(text, header, &facts.word)?;
     }
-    text.known("time", &facts.time)?;
-    text.ordinal("packet", facts.packet)?;
+    text.text_member_if_known("time", &facts.time)?;
+    text.number_member_if_known("packet", facts.packet)?;
     if let Some(call) = facts.call {
-        text.total("call", u64::from(call))?;
+        text.number_member("call", u64::from(call))?;
     }
-    text.known("operation", &facts.operation)?;
-    text.known("interface", &facts.interface)?;
+    text.text_member_if_known("operation", &facts.operation)?;
+    text.text_member_if_known("interface", &facts.interface)?;
     if let Some(call) = facts.answers {
         text.key("answers")?;
         text.open(false)?;
-        text.total("stream", call.stream)?;
-        text.total("message", call.number)?;
+        text.number_member("stream", call.stream)?;
+        text.number_member("message", call.number)?;
         text.close(false)?;
     }
     if facts.seconds.is_empty() {
@@ -160,9 +164,9 @@ fn put_facts(text: &mut Text, facts: &Facts) -> Result<(), AllocError> {
     text.number(&facts.seconds)
 }
 
-fn put_header(text: &mut Text, header: Header, kind: &[u8]) -> Result<(), AllocError> {
+fn put_header(text: &mut JsonText, header: Header, kind: &[u8]) -> Result<(), AllocError> {
     text.key("version")?;
-    text.string(version(header))?;
+    text.string(version_text(header))?;
     text.key("order")?;
     text.string(match header.order {
         Order::Big => "big",
@@ -170,12 +174,12 @@ fn put_header(text: &mut Text, header: Header, kind: &[u8]) -> Result<(), AllocE
     })?;
     text.key("type")?;
     text.octets(kind)?;
-    text.total("size", u64::from(header.size))?;
-    text.flag("more", header.more)
+    text.number_member("size", u64::from(header.size))?;
+    text.true_member_if("more", header.more)
 }
 
 /// The version of a message's header.
-pub(crate) fn version(header: Header) -> &'static str {
+pub(crate) fn version_text(header: Header) -> &'static str {
     match header.minor {
         0 => "1.0",
         1 => "1.1",
@@ -184,34 +188,38 @@ pub(crate) fn version(header: Header) -> &'static str {
 }
 
 /// Writes what comes after the values. If other parts follow, that is only the lines of later versions. Returns the text.
-pub(crate) fn put_values(
+pub(crate) fn put_members_after_values(
     alloc: Global,
-    message: &mut Message<Parts>,
+    message: &mut Message<MessageParts>,
     is_last: bool,
 ) -> Result<Vec<u8>, AllocError> {
     let own = &mut message.own;
     let facts = &message.facts;
-    let is_cut = own.values.lacks() || facts.header.is_none() || !message.has_ended;
-    let text = own.values.close()?;
+    let is_cut = own.values.lacks_lines() || facts.header.is_none() || !message.has_ended;
+    let text = own.values.close_values()?;
     if is_last {
-        text.known("raises", &facts.raises)?;
-        text.ordinal("continues", facts.continues)?;
-        text.ordinal("cancelled_by", facts.cancelled_by)?;
-        text.flag("unfinished", facts.is_unfinished)?;
-        facts.fault.put(text)?;
+        text.text_member_if_known("raises", &facts.raises)?;
+        text.number_member_if_known("continues", facts.continues)?;
+        text.number_member_if_known("cancelled_by", facts.cancelled_by)?;
+        text.true_member_if("unfinished", facts.is_unfinished)?;
+        facts.fault.put_member(text)?;
         if message.fragments > 0 {
-            text.total("fragments", message.fragments)?;
-            text.total("octets", message.octets)?;
+            text.number_member("fragments", message.fragments)?;
+            text.number_member("octets", message.octets)?;
         }
-        text.flag("cut", is_cut)?;
+        text.true_member_if("cut", is_cut)?;
     }
-    put_later(text, &own.later)?;
+    put_later_lines(text, &own.later)?;
     text.close(false)?;
     Ok(own.values.take_text(alloc))
 }
 
 /// Appends a line of a later version, without its LF.
-pub(crate) fn put_later_line(lines: &mut Vec<u8>, key: Key, text: &[u8]) -> Result<(), AllocError> {
+pub(crate) fn append_later_line(
+    lines: &mut Vec<u8>,
+    key: Key,
+    text: &[u8],
+) -> Result<(), AllocError> {
     for (letter, number) in [(b's', key.stream), (b'm', key.number)] {
         if number > 0 {
             lines.push(letter)?;

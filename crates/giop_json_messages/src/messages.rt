@@ -3,13 +3,16 @@
 ghost use Rattle.std.specs.Prelude.{◌≡◌, ◌++◌, [], codes, if◌then◌else◌, OnOk};
 ghost use Rattle.giop_json_messages.specs.Members.{begins_member};
 
-use crate::message::{Parts, put_front, put_later_line, put_values};
-use crate::objects::{Room, Settings, put_ascii, put_later};
-use giop_json_values::Text;
-use giop_lines::{Said, Value};
+use crate::message::{
+    MessageParts, append_later_line, put_members_after_values, put_members_before_values,
+};
+use crate::objects::{ReusedBuffer, Settings, put_json_in_ascii, put_later_lines};
+use giop_json_values::JsonText;
+use giop_lines::{Statement, Value};
 use giop_print::Out;
 use giop_view_parts::{
-    Capture, Ending, Key, Maker, Message, Notice, OPEN_MAX, Open, Stream, Streams, ViewError,
+    Capture, ConnectionEnding, Key, Maker, Message, Notice, OPEN_MAX, Open, Stream, Streams,
+    ViewError,
 };
 use std::alloc::{AllocError, Global};
 
@@ -18,7 +21,7 @@ use std::alloc::{AllocError, Global};
 pub struct Messages {
     alloc: Global,
     settings: Settings,
-    room: Room,
+    room: ReusedBuffer,
     capture: Capture,
     in_parts: u64,
 }
@@ -29,7 +32,7 @@ impl Messages {
         Messages {
             alloc,
             settings,
-            room: Room::new(alloc),
+            room: ReusedBuffer::new(alloc),
             capture: Capture::new(alloc),
             in_parts: 0,
         }
@@ -40,28 +43,28 @@ impl Messages {
         &mut self,
         out: &mut O,
         stream: Option<&Stream>,
-        message: &mut Message<Parts>,
+        message: &mut Message<MessageParts>,
         is_last: bool,
     ) -> Result<(), ViewError> {
-        let mut front = self.room.text();
+        let mut front = self.room.begin_text();
         front.open(false)?;
         if let Some(stream) = stream {
-            put_ends(&mut front, stream)?;
+            put_stream_identity(&mut front, stream)?;
         }
-        put_front(&mut front, message, is_last)?;
-        let mut values = put_values(self.alloc, message, is_last)?;
+        put_members_before_values(&mut front, message, is_last)?;
+        let mut values = put_members_after_values(self.alloc, message, is_last)?;
         let mut front = front.into_octets();
-        separate(&mut front, &values)?;
+        add_comma_before(&mut front, &values)?;
         values.push(b'\n')?;
         out.put_all(&front)?;
-        put_ascii(out, &values)?;
-        self.room.give(front);
-        message.own.values.give_room(values);
+        put_json_in_ascii(out, &values)?;
+        self.room.take_back(front);
+        message.own.values.reuse_buffer(values);
         Ok(())
     }
 
     /// Writes a line of a stream that a later version has.
-    fn put_later_line<O: Out>(
+    fn put_later_object<O: Out>(
         &mut self,
         out: &mut O,
         stream: &Stream,
@@ -72,21 +75,21 @@ impl Messages {
             stream: stream.number,
             number: 0,
         };
-        put_later_line(&mut line, key, later)?;
-        let mut text = self.room.text();
+        append_later_line(&mut line, key, later)?;
+        let mut text = self.room.begin_text();
         text.open(false)?;
-        put_ends(&mut text, stream)?;
-        put_later(&mut text, &line)?;
+        put_stream_identity(&mut text, stream)?;
+        put_later_lines(&mut text, &line)?;
         text.close(false)?;
-        self.room.put(out, text)
+        self.room.put_line(out, text)
     }
 
     /// Writes the object of a capture.
     fn put_capture<O: Out>(&mut self, out: &mut O) -> Result<(), ViewError> {
-        let mut text = self.room.text();
-        self.capture.put(&mut text, true)?;
+        let mut text = self.room.begin_text();
+        self.capture.put_object(&mut text, true)?;
         self.capture = Capture::new(self.alloc);
-        self.room.put(out, text)
+        self.room.put_line(out, text)
     }
 
     /// Writes what is held of a message as a part of it. After that nothing of the message is held.
@@ -94,7 +97,7 @@ impl Messages {
         &mut self,
         out: &mut O,
         streams: &Streams,
-        open: &mut Open<Parts>,
+        open: &mut Open<MessageParts>,
         key: Key,
     ) -> Result<(), ViewError> {
         let is_current = open.current_key() == Some(key);
@@ -105,57 +108,57 @@ impl Messages {
             self.in_parts = self.in_parts.saturating_add(1);
         }
         self.put_message(out, streams.get(key.stream), &mut message, false)?;
-        message.own.next_part();
+        message.own.begin_next_part();
         open.put_back(message, is_current)?;
         Ok(())
     }
 }
 
 impl Maker for Messages {
-    type Own = Parts;
+    type ViewData = MessageParts;
 
     #[inline]
     fn take_value(
         &mut self,
-        message: &mut Message<Parts>,
+        message: &mut Message<MessageParts>,
         path: &[u8],
         value: Value<'_>,
     ) -> Result<(), AllocError> {
         message.own.take_value(self.settings.options, path, value)
     }
 
-    fn take_more(
+    fn take_rest_or_later(
         &mut self,
-        message: &mut Message<Parts>,
-        said: Said<'_>,
+        message: &mut Message<MessageParts>,
+        said: Statement<'_>,
     ) -> Result<(), AllocError> {
-        message.own.take_more(message.key, said)
+        message.own.take_rest_or_later(message.key, said)
     }
 
     fn end_message<O: Out>(
         &mut self,
         out: &mut O,
         streams: &Streams,
-        open: &mut Open<Parts>,
-        message: Box<Message<Parts>>,
+        open: &mut Open<MessageParts>,
+        message: Box<Message<MessageParts>>,
     ) -> Result<(), ViewError> {
         let mut message = message;
         let stream = streams.get(message.key.stream);
         self.put_message(out, stream, &mut message, true)?;
-        open.give_room(message)?;
+        open.keep_spare(message)?;
         Ok(())
     }
 
-    fn take_of_stream<O: Out>(
+    fn take_stream_line<O: Out>(
         &mut self,
         out: &mut O,
         stream: &Stream,
-        said: Said<'_>,
+        said: Statement<'_>,
     ) -> Result<(), ViewError> {
-        self.capture.take(said)?;
+        self.capture.take_statement(said)?;
         match said {
-            Said::CaptureTotal(_) => self.put_capture(out),
-            Said::Later(later) => self.put_later_line(out, stream, later),
+            Statement::CaptureTotal(_) => self.put_capture(out),
+            Statement::Later(later) => self.put_later_object(out, stream, later),
             _ => Ok(()),
         }
     }
@@ -164,18 +167,22 @@ impl Maker for Messages {
         &mut self,
         out: &mut O,
         stream: &Stream,
-        _ending: Ending,
-        _open: &mut Open<Parts>,
+        _ending: ConnectionEnding,
+        _open: &mut Open<MessageParts>,
     ) -> Result<(), ViewError> {
         if !stream.is_told {
             return Ok(());
         }
-        let mut text = self.room.text();
+        let mut text = self.room.begin_text();
         put_stream(&mut text, stream)?;
-        self.room.put(out, text)
+        self.room.put_line(out, text)
     }
 
-    fn finish<O: Out>(&mut self, out: &mut O, _open: &mut Open<Parts>) -> Result<(), ViewError> {
+    fn finish<O: Out>(
+        &mut self,
+        out: &mut O,
+        _open: &mut Open<MessageParts>,
+    ) -> Result<(), ViewError> {
         if self.capture.is_empty() {
             return Ok(());
         }
@@ -183,20 +190,20 @@ impl Maker for Messages {
     }
 
     #[inline]
-    fn is_full(&self, open: u64) -> bool {
-        self.settings.is_full(open)
+    fn holds_too_much(&self, open_octets: u64) -> bool {
+        self.settings.is_over_hold(open_octets)
     }
 
     /// While more is held than may be, writes what is held of the message with the most text.
-    fn make_room<O: Out>(
+    fn reduce_held_text<O: Out>(
         &mut self,
         out: &mut O,
         streams: &Streams,
-        open: &mut Open<Parts>,
+        open: &mut Open<MessageParts>,
     ) -> Result<(), ViewError> {
         for _ in 0..=OPEN_MAX {
-            match open.most() {
-                Some((_, key)) if self.is_full(open.held()) => {
+            match open.most_text() {
+                Some((_, key)) if self.holds_too_much(open.held_octets()) => {
                     self.put_part(out, streams, open, key)?
                 }
                 _ => break,
@@ -216,7 +223,7 @@ impl Maker for Messages {
 }
 
 /// Adds a comma to the first members of an object, if others follow.
-fn separate(front: &mut Vec<u8>, others: &[u8]) -> Result<(), AllocError>
+fn add_comma_before(front: &mut Vec<u8>, others: &[u8]) -> Result<(), AllocError>
     ensures { OnOk result (front.new.items ≡ front.old.items
         ++ (if begins_member others.now then codes "," else [])) }
 {
@@ -227,33 +234,33 @@ fn separate(front: &mut Vec<u8>, others: &[u8]) -> Result<(), AllocError>
 }
 
 /// Writes the number of a stream, its connection and its endpoints.
-fn put_ends(text: &mut Text, stream: &Stream) -> Result<(), AllocError> {
-    text.ordinal("stream", stream.number)?;
+fn put_stream_identity(text: &mut JsonText, stream: &Stream) -> Result<(), AllocError> {
+    text.number_member_if_known("stream", stream.number)?;
     let Some(connection) = stream.connection else {
         return Ok(());
     };
-    text.total("connection", connection.number)?;
-    text.known("from", &stream.source)?;
-    text.known("to", &stream.target)
+    text.number_member("connection", connection.number)?;
+    text.text_member_if_known("from", &stream.source)?;
+    text.text_member_if_known("to", &stream.target)
 }
 
 /// Writes the object of a stream.
-fn put_stream(text: &mut Text, stream: &Stream) -> Result<(), AllocError> {
+fn put_stream(text: &mut JsonText, stream: &Stream) -> Result<(), AllocError> {
     text.open(false)?;
-    put_ends(text, stream)?;
-    text.known("time", &stream.time)?;
-    text.known("last", &stream.last)?;
-    text.ordinal("with", stream.with)?;
-    text.ordinal("behind", stream.behind)?;
-    text.flag("found", stream.is_found)?;
-    text.known("closed", &stream.closed)?;
-    stream.fault.put(text)?;
+    put_stream_identity(text, stream)?;
+    text.text_member_if_known("time", &stream.time)?;
+    text.text_member_if_known("last", &stream.last)?;
+    text.number_member_if_known("with", stream.with)?;
+    text.number_member_if_known("behind", stream.behind)?;
+    text.true_member_if("found", stream.is_found)?;
+    text.text_member_if_known("closed", &stream.closed)?;
+    stream.fault.put_member(text)?;
     match stream.total {
-        None => text.flag("cut", true)?,
+        None => text.true_member_if("cut", true)?,
         Some(total) => {
-            text.total("messages", total.messages)?;
-            text.total("faults", total.faults)?;
-            text.total("octets", total.octets)?;
+            text.number_member("messages", total.messages)?;
+            text.number_member("faults", total.faults)?;
+            text.number_member("octets", total.octets)?;
         }
     }
     text.close(false)

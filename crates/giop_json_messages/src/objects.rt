@@ -2,7 +2,7 @@
 
 ghost use Rattle.std.specs.Prelude.{◌<◌, ◌*◌, ◌↔◌, IsTrue};
 
-use giop_json_values::{Options, Text, shown_text};
+use giop_json_values::{JsonText, Options, utf8_or_empty};
 use giop_print::Out;
 use giop_view_parts::ViewError;
 use std::alloc::{AllocError, Global};
@@ -23,7 +23,7 @@ pub struct Settings {
 impl Settings {
     /// Whether more octets are held than may be.
     #[inline]
-    pub(crate) fn is_full(&self, held: u64) -> bool
+    pub(crate) fn is_over_hold(&self, held: u64) -> bool
         ensures { IsTrue result ↔ self.now.hold * 1024 < held }
     {
         held > u64::from(self.hold) * 1_024
@@ -32,41 +32,45 @@ impl Settings {
 
 /// The room of an object, which is kept for the next one.
 #[derive(Drop)]
-pub(crate) struct Room {
+pub(crate) struct ReusedBuffer {
     alloc: Global,
     octets: Vec<u8>,
 }
 
-impl Room {
-    pub(crate) fn new(alloc: Global) -> Room {
-        Room {
+impl ReusedBuffer {
+    pub(crate) fn new(alloc: Global) -> ReusedBuffer {
+        ReusedBuffer {
             alloc,
             octets: Vec::new(alloc),
         }
     }
 
     /// Makes a text with nothing written.
-    pub(crate) fn text(&mut self) -> Text {
-        Text::new(mem::replace(&mut self.octets, Vec::new(self.alloc)))
+    pub(crate) fn begin_text(&mut self) -> JsonText {
+        JsonText::new(mem::replace(&mut self.octets, Vec::new(self.alloc)))
     }
 
     /// Takes back the room of a text.
-    pub(crate) fn give(&mut self, octets: Vec<u8>) {
+    pub(crate) fn take_back(&mut self, octets: Vec<u8>) {
         self.octets = octets;
     }
 
     /// Writes a text with its LF.
-    pub(crate) fn put<O: Out>(&mut self, out: &mut O, text: Text) -> Result<(), ViewError> {
+    pub(crate) fn put_line<O: Out>(
+        &mut self,
+        out: &mut O,
+        text: JsonText,
+    ) -> Result<(), ViewError> {
         let mut octets = text.into_octets();
         octets.push(b'\n')?;
-        put_ascii(out, &octets)?;
+        put_json_in_ascii(out, &octets)?;
         self.octets = octets;
         Ok(())
     }
 }
 
 /// Writes the list of the lines of later versions, if there are any. Each line ends with its LF.
-pub(crate) fn put_later(text: &mut Text, lines: &[u8]) -> Result<(), AllocError> {
+pub(crate) fn put_later_lines(text: &mut JsonText, lines: &[u8]) -> Result<(), AllocError> {
     if lines.is_empty() {
         return Ok(());
     }
@@ -81,19 +85,19 @@ pub(crate) fn put_later(text: &mut Text, lines: &[u8]) -> Result<(), AllocError>
 }
 
 /// Writes a text of JSON. Each character outside ASCII is written as its escape; such characters stand only in its strings.
-pub(crate) fn put_ascii<O: Out>(out: &mut O, text: &[u8]) -> Result<(), ViewError> {
+pub(crate) fn put_json_in_ascii<O: Out>(out: &mut O, text: &[u8]) -> Result<(), ViewError> {
     if text.is_ascii() {
         out.put_all(text)?;
         return Ok(());
     }
-    for character in shown_text(text).chars() {
+    for character in utf8_or_empty(text).chars() {
         let mut room = [0; 4];
         if character.is_ascii() {
             out.put_all(character.encode_utf8(&mut room).as_bytes())?;
         } else {
             let mut units = [0; 2];
             for unit in character.encode_utf16(&mut units) {
-                out.put_all(&escape(*unit))?;
+                out.put_all(&unicode_escape(*unit))?;
             }
         }
     }
@@ -101,7 +105,7 @@ pub(crate) fn put_ascii<O: Out>(out: &mut O, text: &[u8]) -> Result<(), ViewErro
 }
 
 /// The escape of a UTF-16 unit in JSON.
-fn escape(unit: u16) -> [u8; 6] {
+fn unicode_escape(unit: u16) -> [u8; 6] {
     let [high, low] = unit.to_be_bytes();
     let digits = b"0123456789abcdef";
     [

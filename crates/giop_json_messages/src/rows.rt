@@ -1,9 +1,9 @@
 //! The members of a call.
 
-use crate::half::Half;
-use crate::message::version;
-use giop_json_values::{Characters, Text, put_shown, shown_text};
-use giop_view_parts::{Endpoint, Message, Status, object_text};
+use crate::half::CallHalf;
+use crate::message::version_text;
+use giop_json_values::{Characters, JsonText, put_line_text, utf8_or_empty};
+use giop_view_parts::{Endpoint, Message, Status, append_hex_as_text};
 use std::alloc::{AllocError, Global};
 
 /// What became of a call.
@@ -40,8 +40,8 @@ impl Outcome {
 /// A Request and the Reply that answers it. One of the two may be unknown.
 #[derive(Clone, Copy)]
 pub(crate) struct Call<'a> {
-    pub(crate) request: Option<&'a Message<Half>>,
-    pub(crate) reply: Option<&'a Message<Half>>,
+    pub(crate) request: Option<&'a Message<CallHalf>>,
+    pub(crate) reply: Option<&'a Message<CallHalf>>,
 }
 
 impl<'a> Call<'a> {
@@ -81,7 +81,7 @@ impl<'a> Call<'a> {
     }
 
     /// The endpoints of the client and of the server.
-    fn ends(self) -> (&'a [u8], &'a [u8]) {
+    fn client_and_server(self) -> (&'a [u8], &'a [u8]) {
         match (self.request, self.reply) {
             (Some(request), _) => (&request.own.source, &request.own.target),
             (None, Some(reply)) => (&reply.own.target, &reply.own.source),
@@ -90,39 +90,39 @@ impl<'a> Call<'a> {
     }
 
     /// Writes the members before those of the bodies.
-    pub(crate) fn put_front(
+    pub(crate) fn put_members_before_bodies(
         self,
         alloc: Global,
-        text: &mut Text,
+        text: &mut JsonText,
         characters: Characters,
     ) -> Result<(), AllocError> {
         let (request, reply) = (self.request, self.reply);
-        let (client, server) = self.ends();
+        let (client, server) = self.client_and_server();
         text.open(false)?;
-        text.known_or_null("request_time", request.map_or(b"", |m| &m.facts.time))?;
+        text.text_member_or_null("request_time", request.map_or(b"", |m| &m.facts.time))?;
         text.key("seconds")?;
         match reply {
             Some(reply) if !reply.facts.seconds.is_empty() => text.number(&reply.facts.seconds)?,
             _ => text.null()?,
         }
-        put_end(text, ["client", "client_port"], client)?;
-        put_end(text, ["server", "server_port"], server)?;
+        put_endpoint(text, ["client", "client_port"], client)?;
+        put_endpoint(text, ["server", "server_port"], server)?;
         text.key("object")?;
-        put_object(
+        put_object_key(
             alloc,
             text,
-            request.map_or(b"", |m| m.own.object()),
+            request.map_or(b"", |m| m.own.object_key_digits()),
             characters,
         )?;
-        text.known_or_null("interface", request.map_or(b"", |m| &m.facts.interface))?;
+        text.text_member_or_null("interface", request.map_or(b"", |m| &m.facts.interface))?;
         let called = request.map_or(b"".as_slice(), |m| &m.facts.operation);
         let answered = reply.map_or(b"".as_slice(), |m| &m.facts.operation);
-        text.known_or_null(
+        text.text_member_or_null(
             "operation",
             if called.is_empty() { answered } else { called },
         )?;
-        text.known_or_null("outcome", self.outcome().word().as_bytes())?;
-        text.known_or_null("exception", reply.map_or(b"", |m| &m.facts.raises))
+        text.text_member_or_null("outcome", self.outcome().word().as_bytes())?;
+        text.text_member_or_null("exception", reply.map_or(b"", |m| &m.facts.raises))
     }
 
     /// The bodies, with the names of their members. A body that there isn't is empty.
@@ -145,20 +145,20 @@ impl<'a> Call<'a> {
     }
 
     /// Writes the members after those of the bodies.
-    pub(crate) fn put_back(self, text: &mut Text) -> Result<(), AllocError> {
+    pub(crate) fn put_members_after_bodies(self, text: &mut JsonText) -> Result<(), AllocError> {
         let (request, reply) = (self.request, self.reply);
-        text.known_or_null("request_rest", request.map_or(b"", |m| &m.own.rest))?;
-        text.known_or_null("reply_rest", reply.map_or(b"", |m| &m.own.rest))?;
-        text.known_or_null("request_fault", request.map_or(b"", fault_of))?;
-        text.known_or_null("reply_fault", reply.map_or(b"", fault_of))?;
+        text.text_member_or_null("request_rest", request.map_or(b"", |m| &m.own.rest))?;
+        text.text_member_or_null("reply_rest", reply.map_or(b"", |m| &m.own.rest))?;
+        text.text_member_or_null("request_fault", request.map_or(b"", fault_word))?;
+        text.text_member_or_null("reply_fault", reply.map_or(b"", fault_word))?;
         let id = request.and_then(|m| m.facts.call);
-        text.total_or_null("request_id", id.map(u64::from))?;
+        text.number_member_or_null("request_id", id.map(u64::from))?;
         let some = if request.is_some() { request } else { reply };
         let header = some.and_then(|m| m.facts.header);
-        text.known_or_null("version", header.map_or("", version).as_bytes())?;
+        text.text_member_or_null("version", header.map_or("", version_text).as_bytes())?;
         let connection = some.and_then(|m| m.own.connection);
-        text.total_or_null("connection", connection.map(|of| of.number))?;
-        put_message(
+        text.number_member_or_null("connection", connection.map(|of| of.number))?;
+        put_message_numbers(
             text,
             [
                 "request_stream",
@@ -168,7 +168,7 @@ impl<'a> Call<'a> {
             ],
             request,
         )?;
-        put_message(
+        put_message_numbers(
             text,
             [
                 "reply_stream",
@@ -178,7 +178,7 @@ impl<'a> Call<'a> {
             ],
             reply,
         )?;
-        text.known_or_null("reply_time", reply.map_or(b"", |m| &m.facts.time))?;
+        text.text_member_or_null("reply_time", reply.map_or(b"", |m| &m.facts.time))?;
         text.key("cut")?;
         text.boolean(self.is_cut())?;
         text.close(false)
@@ -186,12 +186,12 @@ impl<'a> Call<'a> {
 }
 
 /// Whether lines of a message are missing, or there was no room.
-fn is_cut(message: Option<&Message<Half>>) -> bool {
+fn is_cut(message: Option<&Message<CallHalf>>) -> bool {
     message.is_some_and(|m| m.own.is_cut() || m.facts.header.is_none() || !m.has_ended)
 }
 
 /// The word of a message's fault, or that the message is unfinished.
-fn fault_of(message: &Message<Half>) -> &[u8] {
+fn fault_word(message: &Message<CallHalf>) -> &[u8] {
     if message.facts.fault.is_none() && message.facts.is_unfinished {
         return b"unfinished";
     }
@@ -199,16 +199,16 @@ fn fault_of(message: &Message<Half>) -> &[u8] {
 }
 
 /// Writes the address and the port of an endpoint.
-fn put_end(text: &mut Text, names: [&str; 2], end: &[u8]) -> Result<(), AllocError> {
-    let end = Endpoint::of(shown_text(end));
-    text.known_or_null(names[0], end.address.as_bytes())?;
-    text.total_or_null(names[1], end.port)
+fn put_endpoint(text: &mut JsonText, names: [&str; 2], end: &[u8]) -> Result<(), AllocError> {
+    let end = Endpoint::of_text(utf8_or_empty(end));
+    text.text_member_or_null(names[0], end.address.as_bytes())?;
+    text.number_member_or_null(names[1], end.port)
 }
 
 /// Writes an object key as text.
-fn put_object(
+fn put_object_key(
     alloc: Global,
-    text: &mut Text,
+    text: &mut JsonText,
     digits: &[u8],
     characters: Characters,
 ) -> Result<(), AllocError> {
@@ -216,32 +216,32 @@ fn put_object(
         return text.null();
     }
     let mut object = Vec::new(alloc);
-    object_text(&mut object, digits)?;
-    put_shown(alloc, text, &object, characters)
+    append_hex_as_text(&mut object, digits)?;
+    put_line_text(alloc, text, &object, characters)
 }
 
 /// Writes which message it is, its packet, and its octets.
-fn put_message(
-    text: &mut Text,
+fn put_message_numbers(
+    text: &mut JsonText,
     names: [&str; 4],
-    message: Option<&Message<Half>>,
+    message: Option<&Message<CallHalf>>,
 ) -> Result<(), AllocError> {
     let numbers = match message {
         None => [None, None, None, None],
         Some(message) => [
-            ordinal(message.key.stream),
+            nonzero(message.key.stream),
             Some(message.key.number),
-            ordinal(message.facts.packet),
+            nonzero(message.facts.packet),
             Some(message.octets),
         ],
     };
     for (name, number) in names.iter().zip(numbers) {
-        text.total_or_null(name, number)?;
+        text.number_member_or_null(name, number)?;
     }
     Ok(())
 }
 
 /// A number from 1. None stands for 0, which means that the number isn't known.
-fn ordinal(number: u64) -> Option<u64> {
+fn nonzero(number: u64) -> Option<u64> {
     if number == 0 { None } else { Some(number) }
 }

@@ -1,9 +1,9 @@
 //! The open objects and lists, by their paths.
 
 ghost use Rattle.std.specs.Prelude.{◌≡◌, ◌++◌, [], if◌then◌else◌, map, take, drop, OnOk};
-ghost use Rattle.giop_json_values.specs.Nesting.{is_list, closers};
+ghost use Rattle.giop_json_values.specs.Nesting.{is_list, closing_tokens};
 
-use crate::text::{Text, shown_text};
+use crate::text::{JsonText, utf8_or_empty};
 use giop_lines::number;
 use std::alloc::{AllocError, Global};
 
@@ -16,23 +16,23 @@ const OPEN_MAX: usize = 96;
 
 /// The place of a value in the innermost open object or list.
 #[derive(Clone, Copy)]
-pub(crate) enum Key<'a> {
+pub(crate) enum NameOrIndex<'a> {
     Name(&'a str),
     Index(u64),
 }
 
-impl<'a> Key<'a> {
+impl<'a> NameOrIndex<'a> {
     /// The key for a part of a path. The part is a root, or it has a dot before it or brackets around it.
-    fn of(part: &'a [u8]) -> Key<'a> {
+    fn of_part(part: &'a [u8]) -> NameOrIndex<'a> {
         match part {
-            [b'[', digits @ .., b']'] => Key::Index(number(digits).unwrap_or(0)),
-            [b'.', name @ ..] => Key::Name(shown_text(name)),
-            root => Key::Name(shown_text(root)),
+            [b'[', digits @ .., b']'] => NameOrIndex::Index(number(digits).unwrap_or(0)),
+            [b'.', name @ ..] => NameOrIndex::Name(utf8_or_empty(name)),
+            root => NameOrIndex::Name(utf8_or_empty(root)),
         }
     }
 
     /// The key for the value of an encapsulation.
-    pub(crate) const VALUE: Key<'static> = Key::Name("@value");
+    pub(crate) const VALUE: NameOrIndex<'static> = NameOrIndex::Name("@value");
 }
 
 /// What is open: a list, an object, or an encapsulation, whose value may be something other than an object.
@@ -69,7 +69,7 @@ impl Frame {
     }
 
     /// Whether a path may go on within this frame, if it begins with the frame's path.
-    fn fits(&self, path: &[u8]) -> bool {
+    fn may_contain(&self, path: &[u8]) -> bool {
         match path.get(self.end) {
             None => true,
             Some(b'[') => { self.is_list() || self.shape == Shape::Encapsulation && !self.is_value }
@@ -110,9 +110,9 @@ impl Frames {
     }
 
     /// Closes all of them at the end of a part.
-    pub(crate) fn close(&mut self, text: &mut Text) -> Result<(), AllocError>
+    pub(crate) fn close_for_part(&mut self, text: &mut JsonText) -> Result<(), AllocError>
         ensures { OnOk result (text.new.tokens ≡ text.old.tokens ++ (if self.old.is_closed then []
-            else closers (map (λ f. f.shape) self.old.open.items))) }
+            else closing_tokens (map (λ f. f.shape) self.old.open.items))) }
     {
         if !self.is_closed {
             close_all(text, &self.open)?;
@@ -123,19 +123,23 @@ impl Frames {
 
     /// After the end of a part, opens those again that are on the way to a path.
     #[inline]
-    pub(crate) fn resume(&mut self, text: &mut Text, path: &[u8]) -> Result<(), AllocError> {
+    pub(crate) fn reopen_if_closed(
+        &mut self,
+        text: &mut JsonText,
+        path: &[u8],
+    ) -> Result<(), AllocError> {
         if self.is_closed {
-            self.open_again(text, path)
+            self.reopen(text, path)
         } else {
             Ok(())
         }
     }
 
-    fn open_again(&mut self, text: &mut Text, path: &[u8]) -> Result<(), AllocError> {
+    fn reopen(&mut self, text: &mut JsonText, path: &[u8]) -> Result<(), AllocError> {
         self.is_closed = false;
-        let (count, at) = self.reached(path);
+        let (count, offset) = self.open_on_way(path);
         self.open.truncate(count);
-        self.path.truncate(at);
+        self.path.truncate(offset);
         let mut start = 0;
         let mut is_element = false;
         for frame in &self.open {
@@ -145,8 +149,8 @@ impl Frames {
                     .as_slice()
                     .get(start..frame.end)
                     .unwrap_or_default();
-                match Key::of(part) {
-                    Key::Name(name) if !frame.is_value => text.key(name)?,
+                match NameOrIndex::of_part(part) {
+                    NameOrIndex::Name(name) if !frame.is_value => text.key(name)?,
                     _ => text.key("@value")?,
                 }
             }
@@ -157,31 +161,35 @@ impl Frames {
         Ok(())
     }
 
-    pub(crate) fn lacks(&self) -> bool {
+    pub(crate) fn lacks_lines(&self) -> bool {
         self.lacks
     }
 
-    pub(crate) fn set_lacks(&mut self, lacks: bool) {
+    pub(crate) fn set_lacks_lines(&mut self, lacks: bool) {
         self.lacks = lacks;
     }
 
     /// How many of the open ones are on the way to a path, and how many octets of the path they have.
-    fn reached(&self, path: &[u8]) -> (usize, usize) {
-        let common = common_front(&self.path, path);
-        let mut at = 0;
+    fn open_on_way(&self, path: &[u8]) -> (usize, usize) {
+        let common = common_front_len(&self.path, path);
+        let mut offset = 0;
         for (count, frame) in self.open.iter().enumerate() {
-            if frame.end > common || !frame.fits(path) {
-                return (count, at);
+            if frame.end > common || !frame.may_contain(path) {
+                return (count, offset);
             }
-            at = frame.end;
+            offset = frame.end;
         }
-        (self.open.len(), at)
+        (self.open.len(), offset)
     }
 
     /// Closes all but the outermost `count` of them.
-    pub(crate) fn close_to(&mut self, text: &mut Text, count: usize) -> Result<(), AllocError>
+    pub(crate) fn close_inner(
+        &mut self,
+        text: &mut JsonText,
+        count: usize,
+    ) -> Result<(), AllocError>
         ensures closed { OnOk result (text.new.tokens ≡ text.old.tokens
-            ++ closers (map (λ f. f.shape) (drop count self.old.open.items))) }
+            ++ closing_tokens (map (λ f. f.shape) (drop count self.old.open.items))) }
         ensures open { OnOk result (self.new.open.items ≡ take count self.old.open.items) }
     {
         if count < self.open.len() {
@@ -195,31 +203,35 @@ impl Frames {
 
     /// Writes what comes before a value: its name. An element has none.
     #[inline]
-    pub(crate) fn key(&mut self, text: &mut Text, key: Key<'_>) -> Result<(), AllocError> {
+    pub(crate) fn put_key(
+        &mut self,
+        text: &mut JsonText,
+        key: NameOrIndex<'_>,
+    ) -> Result<(), AllocError> {
         if let Some(frame) = self.open.last_mut()
             && frame.shape == Shape::List
         {
-            if let Key::Index(index) = key {
+            if let NameOrIndex::Index(index) = key {
                 self.lacks |= index != frame.next;
                 frame.next = index.saturating_add(1);
             }
             return Ok(());
         }
         match key {
-            Key::Name(name) => text.key(name),
-            Key::Index(index) => text.key(itoa::Buffer::new().format(index)),
+            NameOrIndex::Name(name) => text.key(name),
+            NameOrIndex::Index(index) => text.key(itoa::Buffer::new().format(index)),
         }
     }
 
     /// Opens an object or list at a path. The path begins with the path of the innermost open one.
     pub(crate) fn open(
         &mut self,
-        text: &mut Text,
-        key: Key<'_>,
+        text: &mut JsonText,
+        key: NameOrIndex<'_>,
         path: &[u8],
         shape: Shape,
     ) -> Result<(), AllocError> {
-        self.key(text, key)?;
+        self.put_key(text, key)?;
         let start = self.path.len();
         text.open(shape == Shape::List)?;
         if start < path.len() {
@@ -237,36 +249,36 @@ impl Frames {
 
     /// Before a value at a path comes: closes what the path isn't in, and opens what is new on the way.
     #[inline]
-    pub(crate) fn place<'p>(
+    pub(crate) fn enter_path<'p>(
         &mut self,
-        text: &mut Text,
+        text: &mut JsonText,
         path: &'p [u8],
-    ) -> Result<Key<'p>, AllocError> {
-        self.resume(text, path)?;
-        let (count, at) = self.reached(path);
-        if at >= path.len() {
-            return self.place_again(text, path, count);
+    ) -> Result<NameOrIndex<'p>, AllocError> {
+        self.reopen_if_closed(text, path)?;
+        let (count, offset) = self.open_on_way(path);
+        if offset >= path.len() {
+            return self.enter_open_path(text, path, count);
         }
         if count > OPEN_MAX {
-            self.close_to(text, 0)?;
-            return self.open_way(text, path, 0);
+            self.close_inner(text, 0)?;
+            return self.open_to_last_part(text, path, 0);
         }
-        self.close_to(text, count)?;
+        self.close_inner(text, count)?;
         let is_list = self.open.last().is_some_and(|frame| frame.is_list());
-        if path[at] == b'[' && !is_list {
-            self.open(text, Key::VALUE, &path[..at], Shape::List)?;
+        if path[offset] == b'[' && !is_list {
+            self.open(text, NameOrIndex::VALUE, &path[..offset], Shape::List)?;
         }
-        self.open_way(text, path, at)
+        self.open_to_last_part(text, path, offset)
     }
 
     /// The key of a value that has the same path as an open object: it is the value of an encapsulation, or comes after
     /// what was written of the path before.
-    fn place_again<'p>(
+    fn enter_open_path<'p>(
         &mut self,
-        text: &mut Text,
+        text: &mut JsonText,
         path: &'p [u8],
         count: usize,
-    ) -> Result<Key<'p>, AllocError> {
+    ) -> Result<NameOrIndex<'p>, AllocError> {
         if count > 0
             && count <= OPEN_MAX
             && self
@@ -274,19 +286,19 @@ impl Frames {
                 .get(count - 1)
                 .is_some_and(|frame| frame.is_open_encapsulation())
         {
-            self.close_to(text, count)?;
-            return Ok(Key::VALUE);
+            self.close_inner(text, count)?;
+            return Ok(NameOrIndex::VALUE);
         }
-        let outer = self.around(count);
-        self.close_to(text, outer)?;
+        let outer = self.count_around(count);
+        self.close_inner(text, outer)?;
         Ok(last_key(path))
     }
 
     /// How many objects and lists are open around the value that the frame of this number, from 1, is the innermost part
     /// of.
-    fn around(&self, count: usize) -> usize {
-        let mut outer = count;
-        for _ in 0..count {
+    fn count_around(&self, frame_number: usize) -> usize {
+        let mut outer = frame_number;
+        for _ in 0..frame_number {
             if outer == 0 {
                 return 0;
             }
@@ -299,16 +311,16 @@ impl Frames {
     }
 
     /// Opens the objects and lists on the way from an octet of a path to the path's last part.
-    fn open_way<'p>(
+    fn open_to_last_part<'p>(
         &mut self,
-        text: &mut Text,
+        text: &mut JsonText,
         path: &'p [u8],
-        at: usize,
-    ) -> Result<Key<'p>, AllocError> {
-        let mut start = at;
+        offset: usize,
+    ) -> Result<NameOrIndex<'p>, AllocError> {
+        let mut start = offset;
         for _ in 0..PARTS_MAX {
             let end = part_end(path, start);
-            let key = Key::of(path.get(start..end).unwrap_or_default());
+            let key = NameOrIndex::of_part(path.get(start..end).unwrap_or_default());
             let shape = match path.get(end) {
                 None => return Ok(key),
                 Some(b'[') => Shape::List,
@@ -322,38 +334,38 @@ impl Frames {
 
     /// Opens the encapsulation whose rest comes. If the rest goes on in a new part, it is the one where it began; else it
     /// is the innermost open one at the path, or one that is missing.
-    pub(crate) fn place_rest(
+    pub(crate) fn enter_rest(
         &mut self,
-        text: &mut Text,
+        text: &mut JsonText,
         path: &[u8],
         is_begun: bool,
     ) -> Result<(), AllocError> {
         let goes_on = self.is_closed && is_begun;
-        self.resume(text, path)?;
-        let (count, at) = self.reached(path);
-        let found = match at < path.len() {
+        self.reopen_if_closed(text, path)?;
+        let (count, offset) = self.open_on_way(path);
+        let found = match offset < path.len() {
             true => 0,
             false if goes_on => count,
-            false => self.encapsulation(count),
+            false => self.encapsulation_without_rest(count),
         };
         if found > 0 {
-            self.close_to(text, found)?;
+            self.close_inner(text, found)?;
         } else {
             self.lacks = true;
-            let key = self.place(text, path)?;
+            let key = self.enter_path(text, path)?;
             self.open(text, key, path, Shape::Encapsulation)?;
         }
         if let Some(frame) = self.open.last_mut() {
             frame.has_rest = true;
         }
-        self.key(text, Key::Name("@rest"))
+        self.put_key(text, NameOrIndex::Name("@rest"))
     }
 
     /// Among the encapsulations that share the path of this frame and have no rest yet, the number of the innermost one,
     /// from 1; 0 if there is none.
-    fn encapsulation(&self, count: usize) -> usize {
-        let mut found = count;
-        for _ in 0..count {
+    fn encapsulation_without_rest(&self, frame_number: usize) -> usize {
+        let mut found = frame_number;
+        for _ in 0..frame_number {
             if found == 0 {
                 return 0;
             }
@@ -372,21 +384,26 @@ impl Frames {
     }
 
     /// Opens the body of a message around a value that isn't a struct.
-    pub(crate) fn open_body(&mut self, text: &mut Text) -> Result<(), AllocError> {
-        self.resume(text, b"body")?;
+    pub(crate) fn open_body(&mut self, text: &mut JsonText) -> Result<(), AllocError> {
+        self.reopen_if_closed(text, b"body")?;
         let is_open = self.path.starts_with(b"body") && !self.open.is_empty();
         if !is_open {
-            self.close_to(text, 0)?;
-            self.open(text, Key::Name("body"), b"body", Shape::Encapsulation)?;
+            self.close_inner(text, 0)?;
+            self.open(
+                text,
+                NameOrIndex::Name("body"),
+                b"body",
+                Shape::Encapsulation,
+            )?;
         }
         Ok(())
     }
 }
 
 /// Closes these frames, the last one first.
-fn close_all(text: &mut Text, frames: &[Frame]) -> Result<(), AllocError>
+fn close_all(text: &mut JsonText, frames: &[Frame]) -> Result<(), AllocError>
     ensures { OnOk result (text.new.tokens ≡ text.old.tokens
-        ++ closers (map (λ f. f.shape) frames.now)) }
+        ++ closing_tokens (map (λ f. f.shape) frames.now)) }
 {
     for closed in 0..frames.len() {
         text.close(frames[frames.len() - 1 - closed].is_list())?;
@@ -395,7 +412,7 @@ fn close_all(text: &mut Text, frames: &[Frame]) -> Result<(), AllocError>
 }
 
 /// How many octets two paths have in common at their front.
-fn common_front(left: &[u8], right: &[u8]) -> usize {
+fn common_front_len(left: &[u8], right: &[u8]) -> usize {
     if right.starts_with(left) {
         return left.len();
     }
@@ -421,7 +438,7 @@ fn part_end(path: &[u8], start: usize) -> usize {
 }
 
 /// The last part of a path.
-fn last_key(path: &[u8]) -> Key<'_> {
+fn last_key(path: &[u8]) -> NameOrIndex<'_> {
     let mut start = 0;
     for _ in 0..PARTS_MAX {
         let end = part_end(path, start);
@@ -430,5 +447,5 @@ fn last_key(path: &[u8]) -> Key<'_> {
         }
         start = end;
     }
-    Key::of(path.get(start..).unwrap_or_default())
+    NameOrIndex::of_part(path.get(start..).unwrap_or_default())
 }

@@ -11,6 +11,6 @@ mod type_codes;
 mod values;
 
 pub use options::{Characters, Options};
-pub use shown::put_shown;
-pub use text::{Text, shown_text};
+pub use shown::put_line_text;
+pub use text::{JsonText, utf8_or_empty};
 pub use values::Values;

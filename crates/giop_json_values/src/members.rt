@@ -1,11 +1,11 @@
 //! Whole members of an object.
 
-use crate::text::Text;
+use crate::text::JsonText;
 use std::alloc::AllocError;
 
-impl Text {
+impl JsonText {
     /// Writes a member that is text, if the text is known: it isn't empty.
-    pub fn known(&mut self, name: &str, octets: &[u8]) -> Result<(), AllocError> {
+    pub fn text_member_if_known(&mut self, name: &str, octets: &[u8]) -> Result<(), AllocError> {
         if octets.is_empty() {
             return Ok(());
         }
@@ -14,7 +14,7 @@ impl Text {
     }
 
     /// Writes a member that is text, or null if the text isn't known.
-    pub fn known_or_null(&mut self, name: &str, octets: &[u8]) -> Result<(), AllocError> {
+    pub fn text_member_or_null(&mut self, name: &str, octets: &[u8]) -> Result<(), AllocError> {
         self.key(name)?;
         if octets.is_empty() {
             return self.null();
@@ -23,21 +23,25 @@ impl Text {
     }
 
     /// Writes a member that is a number.
-    pub fn total(&mut self, name: &str, number: u64) -> Result<(), AllocError> {
+    pub fn number_member(&mut self, name: &str, number: u64) -> Result<(), AllocError> {
         self.key(name)?;
         self.unsigned(number)
     }
 
     /// Writes a member that is a number from 1, if the number is known: it isn't 0.
-    pub fn ordinal(&mut self, name: &str, number: u64) -> Result<(), AllocError> {
+    pub fn number_member_if_known(&mut self, name: &str, number: u64) -> Result<(), AllocError> {
         if number == 0 {
             return Ok(());
         }
-        self.total(name, number)
+        self.number_member(name, number)
     }
 
     /// Writes a member that is a number, or null if there is none.
-    pub fn total_or_null(&mut self, name: &str, number: Option<u64>) -> Result<(), AllocError> {
+    pub fn number_member_or_null(
+        &mut self,
+        name: &str,
+        number: Option<u64>,
+    ) -> Result<(), AllocError> {
         self.key(name)?;
         match number {
             None => self.null(),
@@ -46,7 +50,7 @@ impl Text {
     }
 
     /// Writes a member that is true, if it is true.
-    pub fn flag(&mut self, name: &str, is_true: bool) -> Result<(), AllocError> {
+    pub fn true_member_if(&mut self, name: &str, is_true: bool) -> Result<(), AllocError> {
         if !is_true {
             return Ok(());
         }

@@ -19,7 +19,7 @@ pub(crate) enum Form {
 
 /// A piece at a path.
 #[derive(Clone, Copy)]
-pub(crate) struct Part<'a> {
+pub(crate) struct ContentPiece<'a> {
     pub(crate) path: &'a [u8],
     pub(crate) form: Form,
     pub(crate) is_octets: bool,
@@ -28,9 +28,9 @@ pub(crate) struct Part<'a> {
     pub(crate) more: bool,
 }
 
-impl<'a> Part<'a> {
+impl<'a> ContentPiece<'a> {
     /// Makes the piece that a value is.
-    pub(crate) fn of(path: &'a [u8], piece: Piece<'a>) -> Part<'a>
+    pub(crate) fn of_value(path: &'a [u8], piece: Piece<'a>) -> ContentPiece<'a>
         ensures { result.path.now ≡ path.now }
     {
         let form = match piece.content {
@@ -38,7 +38,7 @@ impl<'a> Part<'a> {
             Content::Octets | Content::WideString | Content::WideChar => Form::Hex,
             Content::Rest => Form::Left,
         };
-        Part {
+        ContentPiece {
             path,
             form,
             is_octets: piece.content == Content::Octets,
@@ -49,8 +49,8 @@ impl<'a> Part<'a> {
     }
 
     /// Makes a piece of what a message has after its body.
-    pub(crate) fn of_rest(offset: u64, octets: &'a [u8]) -> Part<'a> {
-        Part {
+    pub(crate) fn of_rest(offset: u64, octets: &'a [u8]) -> ContentPiece<'a> {
+        ContentPiece {
             path: b"rest",
             form: Form::Rest,
             is_octets: false,
@@ -61,7 +61,7 @@ impl<'a> Part<'a> {
     }
 
     /// The offset at which the next piece of the content begins.
-    pub(crate) fn end(&self) -> u64 {
+    pub(crate) fn next_offset(&self) -> u64 {
         let mut count: u64 = 0;
         if self.form == Form::Text {
             // An escape has four letters, but is one octet.

@@ -2,7 +2,7 @@
 //! they are, as the user chose.
 
 use crate::options::Characters;
-use crate::text::{Text, shown_size, shown_text};
+use crate::text::{JsonText, json_ascii_size, utf8_or_empty};
 use arrayvec::ArrayVec;
 use giop_lines::first_octet;
 use std::alloc::{AllocError, Global};
@@ -13,16 +13,16 @@ const CHARACTER_MAX: usize = 4;
 
 /// A text that comes in pieces.
 #[derive(Drop)]
-pub(crate) struct Letters {
+pub(crate) struct ShownText {
     text: String,
     size: u64,
     // The first octets of a character in UTF-8 that isn't whole yet.
     begun: ArrayVec<u8, 4>,
 }
 
-impl Letters {
-    pub(crate) fn new(alloc: Global) -> Letters {
-        Letters {
+impl ShownText {
+    pub(crate) fn new(alloc: Global) -> ShownText {
+        ShownText {
             text: String::new(alloc),
             size: 0,
             begun: ArrayVec::new(),
@@ -47,14 +47,20 @@ impl Letters {
 
     /// Adds text that stands for itself.
     pub(crate) fn add_plain(&mut self, text: &str) -> Result<(), AllocError> {
-        self.size = self.size.saturating_add(shown_size(text.as_bytes()) as u64);
+        self.size = self
+            .size
+            .saturating_add(json_ascii_size(text.as_bytes()) as u64);
         self.text.push_str(text)
     }
 
     /// Adds a piece of a text as its line has it.
-    pub(crate) fn add(&mut self, piece: &[u8], characters: Characters) -> Result<(), AllocError> {
+    pub(crate) fn add_line_text(
+        &mut self,
+        piece: &[u8],
+        characters: Characters,
+    ) -> Result<(), AllocError> {
         if characters == Characters::Escapes {
-            return self.add_plain(shown_text(piece));
+            return self.add_plain(utf8_or_empty(piece));
         }
         let mut rest = piece;
         for _ in 0..piece.len() {
@@ -70,10 +76,10 @@ impl Letters {
     fn add_octet(&mut self, octet: u8, characters: Characters) -> Result<(), AllocError> {
         match characters {
             Characters::Escapes => self.add_escaped(octet),
-            Characters::Latin1 => self.add_character(char::from(octet), &[octet]),
+            Characters::Latin1 => self.add_character_or_octets(char::from(octet), &[octet]),
             Characters::Utf8 => {
                 if self.begun.try_push(octet).is_ok() {
-                    self.add_begun()
+                    self.add_whole_characters()
                 } else {
                     Ok(())
                 }
@@ -82,7 +88,7 @@ impl Letters {
     }
 
     /// Adds those of the characters that have begun that are whole.
-    fn add_begun(&mut self) -> Result<(), AllocError> {
+    fn add_whole_characters(&mut self) -> Result<(), AllocError> {
         for _ in 0..CHARACTER_MAX {
             let mut octets = [0; CHARACTER_MAX];
             let count = self.begun.len().min(CHARACTER_MAX);
@@ -92,18 +98,21 @@ impl Letters {
                     self.begun.clear();
                     return match text.chars().next() {
                         None => Ok(()),
-                        Some(character) => self.add_character(character, &octets[..count]),
+                        Some(character) => self.add_character_or_octets(
+                            character,
+                            &octets[..count],
+                        ),
                     };
                 }
                 Err(error) if error.error_len().is_none() => return Ok(()),
-                Err(_) => self.add_first(octets[0])?,
+                Err(_) => self.escape_first_begun(octets[0])?,
             }
         }
         Ok(())
     }
 
     /// Adds the first of the octets that have begun, because no character begins with it.
-    fn add_first(&mut self, octet: u8) -> Result<(), AllocError> {
+    fn escape_first_begun(&mut self, octet: u8) -> Result<(), AllocError> {
         if !self.begun.is_empty() {
             self.begun.remove(0);
         }
@@ -111,8 +120,12 @@ impl Letters {
     }
 
     /// Adds a character, or its octets if it isn't one that is shown.
-    fn add_character(&mut self, character: char, octets: &[u8]) -> Result<(), AllocError> {
-        if is_shown(character) {
+    fn add_character_or_octets(
+        &mut self,
+        character: char,
+        octets: &[u8],
+    ) -> Result<(), AllocError> {
+        if is_shown_character(character) {
             let mut room = [0; CHARACTER_MAX];
             return self.add_plain(character.encode_utf8(&mut room));
         }
@@ -126,7 +139,7 @@ impl Letters {
     fn add_escaped(&mut self, octet: u8) -> Result<(), AllocError> {
         if is_plain(octet) {
             let room = [octet];
-            return self.add_plain(shown_text(&room));
+            return self.add_plain(utf8_or_empty(&room));
         }
         let digits = b"0123456789abcdef";
         let escape = [
@@ -135,31 +148,31 @@ impl Letters {
             digits[usize::from(octet / 16)],
             digits[usize::from(octet % 16)],
         ];
-        self.add_plain(shown_text(&escape))
+        self.add_plain(utf8_or_empty(&escape))
     }
 
     /// Ends the text. If a character has begun, it isn't complete, so its octets are shown one by one.
-    pub(crate) fn end(&mut self) -> Result<(), AllocError> {
+    pub(crate) fn end_text(&mut self) -> Result<(), AllocError> {
         for _ in 0..CHARACTER_MAX {
             let Some(octet) = self.begun.as_slice().first().copied() else {
                 break;
             };
-            self.add_first(octet)?;
+            self.escape_first_begun(octet)?;
         }
         Ok(())
     }
 }
 
 /// Writes the text of a line as a text of JSON.
-pub fn put_shown(
+pub fn put_line_text(
     alloc: Global,
-    text: &mut Text,
+    text: &mut JsonText,
     octets: &[u8],
     characters: Characters,
 ) -> Result<(), AllocError> {
-    let mut letters = Letters::new(alloc);
-    letters.add(octets, characters)?;
-    letters.end()?;
+    let mut letters = ShownText::new(alloc);
+    letters.add_line_text(octets, characters)?;
+    letters.end_text()?;
     text.string(letters.text())
 }
 
@@ -170,7 +183,7 @@ fn is_plain(octet: u8) -> bool {
 
 /// Whether a character outside ASCII is shown: it isn't a control, format, private or unassigned one, and doesn't separate
 /// lines.
-fn is_shown(character: char) -> bool {
+fn is_shown_character(character: char) -> bool {
     if character < '\u{a0}' {
         return character.is_ascii() && is_plain(character as u8);
     }

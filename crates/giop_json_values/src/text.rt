@@ -14,7 +14,7 @@ use std::marker::Model;
 
 /// JSON that is written token by token. The caller nests the tokens.
 #[derive(Drop)]
-pub struct Text {
+pub struct JsonText {
     writer: Writer,
     size: u64,
     // Whether a comma comes before the next member or element.
@@ -22,7 +22,7 @@ pub struct Text {
 }
 
 /// A contract sees the tokens that were written.
-impl Model for Text {
+impl Model for JsonText {
     ghost use Rattle.json.specs.Written.{Written, written_code};
 
     ghost Value = { Written };
@@ -32,15 +32,15 @@ impl Model for Text {
     ghost view = { λ text. text.writer };
 }
 
-impl Text {
+impl JsonText {
     /// Makes a text with nothing written, in a room that may have been used before.
-    pub fn new(room: Vec<u8>) -> Text
+    pub fn new(room: Vec<u8>) -> JsonText
         ensures before { result.before ≡ [] }
         ensures tokens { result.tokens ≡ [] }
     {
         let mut room = room;
         room.clear();
-        Text {
+        JsonText {
             writer: Writer::new(room),
             size: 0,
             is_after_value: false,
@@ -56,12 +56,12 @@ impl Text {
     pub fn into_octets(self) -> Vec<u8>
         ensures { result.items ≡ self.before ++ print self.tokens }
     {
-        let Text { writer, .. } = self;
+        let JsonText { writer, .. } = self;
         writer.into_inner()
     }
 
     /// Counts the octets that are written next.
-    fn count(&mut self, size: usize)
+    fn count_octets(&mut self, size: usize)
         ensures { self.new ≡ self.old }
     {
         self.size = self
@@ -76,7 +76,7 @@ impl Text {
     pub fn key(&mut self, name: &str) -> Result<(), AllocError>
         ensures { Writes result self.old self.new (key name.now) }
     {
-        self.count(name.len().saturating_add(3));
+        self.count_octets(name.len().saturating_add(3));
         self.is_after_value = false;
         self.writer.key(name)
     }
@@ -86,7 +86,7 @@ impl Text {
         ensures { Writes result self.old self.new
             (if is_list then begin_array else begin_object) }
     {
-        self.count(1);
+        self.count_octets(1);
         self.is_after_value = false;
         if is_list {
             self.writer.begin_array()
@@ -101,7 +101,7 @@ impl Text {
             (if is_list then end_array else end_object) }
     {
         self.is_after_value = false;
-        self.count(1);
+        self.count_octets(1);
         if is_list {
             self.writer.end_array()
         } else {
@@ -113,7 +113,7 @@ impl Text {
     pub fn string(&mut self, text: &str) -> Result<(), AllocError>
         ensures { Writes result self.old self.new (string text.now) }
     {
-        self.count(shown_size(text.as_bytes()).saturating_add(2));
+        self.count_octets(json_ascii_size(text.as_bytes()).saturating_add(2));
         self.writer.string(text)
     }
 
@@ -121,7 +121,7 @@ impl Text {
     pub fn octets(&mut self, octets: &[u8]) -> Result<(), AllocError>
         ensures { IsUtf8 octets.now → Writes result self.old self.new (string octets.now) }
     {
-        self.string(shown_text(octets))
+        self.string(utf8_or_empty(octets))
     }
 
     /// Writes a number by its digits.
@@ -131,7 +131,7 @@ impl Text {
         if !is_number(digits) {
             return self.null();
         }
-        self.count(digits.len());
+        self.count_octets(digits.len());
         self.writer.number(digits)
     }
 
@@ -140,14 +140,14 @@ impl Text {
         ensures { IsUtf8 octets.now → IsNumber octets.now
             → Writes result self.old self.new (number octets.now) }
     {
-        self.digits(shown_text(octets))
+        self.digits(utf8_or_empty(octets))
     }
 
     /// Writes a number that isn't below 0.
     pub fn unsigned(&mut self, value: u64) -> Result<(), AllocError>
         ensures { Writes result self.old self.new (number (decimal value)) }
     {
-        self.count(digits_of(value));
+        self.count_octets(digit_count(value));
         self.writer.u64(value)
     }
 
@@ -155,7 +155,7 @@ impl Text {
     pub fn signed(&mut self, value: i64) -> Result<(), AllocError>
         ensures { Writes result self.old self.new (number (signed_decimal value)) }
     {
-        self.count(digits_of(value.unsigned_abs()).saturating_add(usize::from(value < 0)));
+        self.count_octets(digit_count(value.unsigned_abs()).saturating_add(usize::from(value < 0)));
         self.writer.i64(value)
     }
 
@@ -170,7 +170,7 @@ impl Text {
     pub fn boolean(&mut self, is_true: bool) -> Result<(), AllocError>
         ensures { Writes result self.old self.new (boolean is_true) }
     {
-        self.count(if is_true { 4 } else { 5 });
+        self.count_octets(if is_true { 4 } else { 5 });
         self.writer.boolean(is_true)
     }
 
@@ -178,13 +178,13 @@ impl Text {
     pub fn null(&mut self) -> Result<(), AllocError>
         ensures { Writes result self.old self.new null }
     {
-        self.count(4);
+        self.count_octets(4);
         self.writer.null()
     }
 }
 
 /// How many decimal digits a number has.
-fn digits_of(number: u64) -> usize {
+fn digit_count(number: u64) -> usize {
     match number {
         0..=9 => 1,
         10..=99 => 2,
@@ -196,17 +196,17 @@ fn digits_of(number: u64) -> usize {
 }
 
 /// Whether all octets of a text are ASCII that needs no escape in JSON.
-fn is_short(text: &[u8]) -> bool {
-    let mut is_short = true;
+fn needs_no_escape(text: &[u8]) -> bool {
+    let mut is_plain = true;
     for octet in text {
-        is_short &= *octet < 0x80 && *octet != b'"' && *octet != b'\\';
+        is_plain &= *octet < 0x80 && *octet != b'"' && *octet != b'\\';
     }
-    is_short
+    is_plain
 }
 
 /// How many octets a text has between the quotes of JSON in ASCII.
-pub(crate) fn shown_size(text: &[u8]) -> usize {
-    if is_short(text) {
+pub(crate) fn json_ascii_size(text: &[u8]) -> usize {
+    if needs_no_escape(text) {
         return text.len();
     }
     let mut size: usize = 0;
@@ -223,7 +223,7 @@ pub(crate) fn shown_size(text: &[u8]) -> usize {
 }
 
 /// Octets as the text that they are in UTF-8. If they aren't UTF-8, it is empty.
-pub fn shown_text(octets: &[u8]) -> &str
+pub fn utf8_or_empty(octets: &[u8]) -> &str
     ensures { IsUtf8 octets.now → result.now ≡ octets.now }
 {
     str::from_utf8(octets).unwrap_or_default()

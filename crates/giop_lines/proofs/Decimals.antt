@@ -23,7 +23,7 @@ AllDigits-at (d ∷ ds) zero h lt = h.0
 AllDigits-at (d ∷ ds) (suc i) h lt = AllDigits-at ds i h.1 (omega arith)
 
 -- the digits of a number below 2^64
-pub record IsWritten (ds : List ℕ) (n : ℕ) : Type 0 where
+pub record IsDecimalDigits (ds : List ℕ) (n : ℕ) : Type 0 where
   pub some : 0 < length ds
   pub digits : AllDigits 10 ds
   pub value : digits_value 10 ds ≡ n
@@ -36,13 +36,13 @@ decimal_leading : (n : ℕ) → n < 2 ^ 64 → get_or (decimal n) 0 0 ≡ 48 →
 decimal_leading zero lt e = zero_written
 decimal_leading (suc n) lt e = absurd (omega (arith, first_decimal (suc n) (omega arith) lt))
 
-pub is_written : (ds : List ℕ) (n : ℕ) → n < 2 ^ 64 → ds ≡ decimal n → IsWritten ds n
+pub is_written : (ds : List ℕ) (n : ℕ) → n < 2 ^ 64 → ds ≡ decimal n → IsDecimalDigits ds n
 is_written ds n lt e =
     let k = decimal_is_IsNumeral n lt in
-    subst (λ (xs : List ℕ). IsWritten xs n) (sym e)
+    subst (λ (xs : List ℕ). IsDecimalDigits xs n) (sym e)
     (record { some = k.0.0; digits = k.0.1; value = k.1; leading = decimal_leading n lt })
 
-pub written_is : (ds : List ℕ) (n : ℕ) → n < 2 ^ 64 → IsWritten ds n → ds ≡ decimal n
+pub written_is : (ds : List ℕ) (n : ℕ) → n < 2 ^ 64 → IsDecimalDigits ds n → ds ≡ decimal n
 written_is ds n lt w = sym (decimal-digits_value own ds w.digits w.some w.leading
     (omega (arith, w.value))) ∙ ap decimal w.value
 
@@ -64,7 +64,7 @@ not_below limit ds r e h = subst (λ (o : Option ℕ). IsNumberBelow limit ds o)
 
 -- digits are those of the number that is read, if it is below the limit
 pub is_number : {E : Type 0} (limit : ℕ) → limit ≤ 2 ^ 64 → (ds : List ℕ) (n : ℕ) (v : Result ℕ E)
-    → IsWritten ds n → OkIff v (n < limit) n → IsNumberBelow limit ds (result_ok v)
+    → IsDecimalDigits ds n → OkIff v (n < limit) n → IsNumberBelow limit ds (result_ok v)
 is_number limit le ds n (Ok m) w h =
     subst (λ (k : ℕ). ds ≡ decimal k) (sym h.1) (written_is ds n (omega (arith, h.0)) w)
 is_number limit le ds n (Err e) w h = λ m small e2.

@@ -6,29 +6,30 @@ use lib.Ieee.Fits.{and_l, and_r}
 use Rattle.std.specs.Prelude.{Option, Some, None, codes}
 use Rattle.std.specs.Borrow.{Bor}
 use Rattle.giop_print.specs.Text.{hex_digit, hex_octet, hex_number, is_plain, escaped_octet}
-use Rattle.giop_lines.specs.Texts.{IsFirstOctet, IsEscaped}
+use Rattle.giop_lines.specs.Texts.{IsFirstOctet, IsEscapeDigits}
 
 -- whether a test holds for all numbers below one
-holds : (ℕ → Bool) → ℕ → Bool
-holds p zero = true
-holds p (suc n) = p n && holds p n
+holds_below : (test : ℕ → Bool) (limit : ℕ) → Bool
+holds_below p zero = true
+holds_below p (suc n) = p n && holds_below p n
 
-holds_at : (p : ℕ → Bool) (n x : ℕ) → T (holds p n) → x < n → T (p x)
-unfolding holds
-holds_at p zero x t h = absurd (omega arith)
-holds_at p (suc n) x t h =
+holds_below_at : (p : ℕ → Bool) (n x : ℕ) → T (holds_below p n) → x < n → T (p x)
+unfolding holds_below
+holds_below_at p zero x t h = absurd (omega arith)
+holds_below_at p (suc n) x t h =
     elim (eq-zero-or-pos (n - x)) [
-      | inl z ↦ let e : n ≡ x = omega arith in subst (λ (y : ℕ). T (p y)) e (and_l _ (holds p n) t)
-      | inr g ↦ holds_at p n x (and_r _ (holds p n) t) (omega arith)
+      | inl z ↦ let e : n ≡ x = omega arith in
+          subst (λ (y : ℕ). T (p y)) e (and_l _ (holds_below p n) t)
+      | inr g ↦ holds_below_at p n x (and_r _ (holds_below p n) t) (omega arith)
     ]
 
 pub low_digit : (d : ℕ) → d < 10 → hex_digit d ≡ d + 48
-unfolding holds
-low_digit d h = eqb→eq _ _ (holds_at (λ x. eqb (hex_digit x) (x + 48)) 10 d tt h)
+unfolding holds_below
+low_digit d h = eqb→eq _ _ (holds_below_at (λ x. eqb (hex_digit x) (x + 48)) 10 d tt h)
 
 pub high_digit : (d : ℕ) → d < 6 → hex_digit (d + 10) ≡ d + 97
-unfolding holds
-high_digit d h = eqb→eq _ _ (holds_at (λ x. eqb (hex_digit (x + 10)) (x + 97)) 6 d tt h)
+unfolding holds_below
+high_digit d h = eqb→eq _ _ (holds_below_at (λ x. eqb (hex_digit (x + 10)) (x + 97)) 6 d tt h)
 
 digit_is : (d : ℕ) → d < 16
     → ((d < 10) × (hex_digit d ≡ d + 48)) ⊎ ((10 ≤ d) × (hex_digit d ≡ d + 87))
@@ -78,7 +79,7 @@ plain_or_not true = inl refl
 plain_or_not false = inr refl
 
 pub escaped_first : (text ds : List ℕ) (r : Option (ℕ × Bor (List ℕ))) → text ≡ codes "\\x" ++ ds
-    → IsEscaped ds r → IsFirstOctet text r
+    → IsEscapeDigits ds r → IsFirstOctet text r
 escaped_first text ds (Some f) e h = (
   h.0,
   e ∙ ap (λ (xs : List ℕ). codes "\\x" ++ xs) h.2

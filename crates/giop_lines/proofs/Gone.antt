@@ -6,25 +6,25 @@ use Rattle.std.proofs.lemmas.List.{take-append-le}
 use Rattle.std.proofs.lemmas.List.Concat.{flat_map-append}
 use Rattle.std.proofs.lemmas.List.Elements.{All-nil, All-cons, All-append}
 use Rattle.giop_print.specs.Text.{escaped, escaped_octet}
-use Rattle.giop_lines.specs.declared.paths.Part.{Part}
-use Rattle.giop_lines.specs.Texts.{IsText}
-use Rattle.giop_lines.specs.Paths.{part_text, IsRoot, IsInner, IsPath}
+use Rattle.giop_lines.specs.declared.paths.PathPart.{PathPart}
+use Rattle.giop_lines.specs.Texts.{IsEscapedText}
+use Rattle.giop_lines.specs.Paths.{part_text, IsRoot, IsPartAfterRoot, IsPath}
 
-pub record Gone {A : Type 0} (is : A → Type 0) (spell : A → List ℕ) (text rest : List ℕ) (n : ℕ)
-    : Type 0 where
+pub record SpelledFront {A : Type 0} (is_item : A → Type 0) (spell : A → List ℕ)
+    (text rest : List ℕ) (count : ℕ) : Type 0 where
   pub items : List A
-  pub are : All is items
-  pub many : length items ≡ n
+  pub are : All is_item items
+  pub many : length items ≡ count
   pub spelled : text ≡ flat_map spell items ++ rest
 
-pub gone_none : {A : Type 0} (is : A → Type 0) (spell : A → List ℕ) (text : List ℕ)
-    → Gone is spell text text 0
-gone_none is spell text = record { items = []; are = All-nil is; many = refl; spelled = refl }
+pub spelled_none : {A : Type 0} (is : A → Type 0) (spell : A → List ℕ) (text : List ℕ)
+    → SpelledFront is spell text text 0
+spelled_none is spell text = record { items = []; are = All-nil is; many = refl; spelled = refl }
 
-pub gone_more : {A : Type 0} (is : A → Type 0) (spell : A → List ℕ) (text rest next : List ℕ)
-    (n : ℕ) (x : A) → Gone is spell text rest n → is x → rest ≡ spell x ++ next
-    → Gone is spell text next (n + 1)
-gone_more is spell text rest next n x g i e =
+pub spelled_more : {A : Type 0} (is : A → Type 0) (spell : A → List ℕ) (text rest next : List ℕ)
+    (n : ℕ) (x : A) → SpelledFront is spell text rest n → is x → rest ≡ spell x ++ next
+    → SpelledFront is spell text next (n + 1)
+spelled_more is spell text rest next n x g i e =
     record {
       items = g.items ++ (x ∷ []);
       are = All-append is g.items (x ∷ []) g.are (All-cons is x [] i (All-nil is));
@@ -35,56 +35,58 @@ gone_more is spell text rest next n x g i e =
           ∙ ap (λ (xs : List ℕ). flat_map spell g.items ++ xs) (append-nil (spell x))));
     }
 
-ends : {A : Type 0} (is : A → Type 0) (spell : A → List ℕ) (text rest : List ℕ) (n : ℕ)
-    → (g : Gone is spell text rest n) → length rest ≡ 0 → text ≡ flat_map spell g.items
-ends is spell text [] n g e = g.spelled ∙ append-nil (flat_map spell g.items)
-ends is spell text (x ∷ xs) n g e = absurd (omega arith)
+spelled_whole : {A : Type 0} (is : A → Type 0) (spell : A → List ℕ) (text rest : List ℕ) (n : ℕ)
+    → (g : SpelledFront is spell text rest n) → length rest ≡ 0 → text ≡ flat_map spell g.items
+spelled_whole is spell text [] n g e = g.spelled ∙ append-nil (flat_map spell g.items)
+spelled_whole is spell text (x ∷ xs) n g e = absurd (omega arith)
 
-pub text_gone : (most n : ℕ) (text rest : List ℕ) → Gone (λ x. x < 256) escaped_octet text rest n
-    → n ≤ most → length rest ≡ 0 → IsText most text
+pub text_spelled : (most n : ℕ) (text rest : List ℕ)
+    → SpelledFront (λ x. x < 256) escaped_octet text rest n → n ≤ most → length rest ≡ 0
+    → IsEscapedText most text
 unfolding escaped
-text_gone most n text rest g le e =
+text_spelled most n text rest g le e =
     record {
       octets = g.items;
       small = g.are;
       few = omega (arith, g.many);
-      spelled = ends (λ x. x < 256) escaped_octet text rest n g e;
+      spelled = spelled_whole (λ x. x < 256) escaped_octet text rest n g e;
     }
 
 pub is_none : (n : ℕ) → (n == 0) ≡ true → n ≡ 0
 is_none n e = eqb-true n 0 e
 
 -- the same for a path after its root
-pub record PathGone (path rest : List ℕ) (n : ℕ) : Type 0 where
+pub record PathFront (path rest : List ℕ) (count : ℕ) : Type 0 where
   pub root : List ℕ
   pub behind : List ℕ
   pub is_root : IsRoot root
   pub spelled : path ≡ root ++ behind
-  pub gone : Gone IsInner part_text behind rest n
+  pub gone : SpelledFront IsPartAfterRoot part_text behind rest count
 
-pub path_none : (path root rest : List ℕ) → IsRoot root → path ≡ root ++ rest → PathGone path rest 0
+pub path_none : (path root rest : List ℕ) → IsRoot root → path ≡ root ++ rest
+    → PathFront path rest 0
 path_none path root rest is e =
     record {
       root = root;
       behind = rest;
       is_root = is;
       spelled = e;
-      gone = gone_none IsInner part_text rest;
+      gone = spelled_none IsPartAfterRoot part_text rest;
     }
 
-pub path_more : (path rest next : List ℕ) (n : ℕ) (part : Part) → PathGone path rest n
-    → IsInner part → rest ≡ part_text part ++ next → PathGone path next (n + 1)
+pub path_more : (path rest next : List ℕ) (n : ℕ) (part : PathPart) → PathFront path rest n
+    → IsPartAfterRoot part → rest ≡ part_text part ++ next → PathFront path next (n + 1)
 path_more path rest next n part g is e =
     record {
       root = g.root;
       behind = g.behind;
       is_root = g.is_root;
       spelled = g.spelled;
-      gone = gone_more IsInner part_text g.behind rest next n part g.gone is e;
+      gone = spelled_more IsPartAfterRoot part_text g.behind rest next n part g.gone is e;
     }
 
 -- what comes before the rest is a path
-pub path_front : (text rest : List ℕ) (n : ℕ) → PathGone text rest n → n ≤ 24
+pub path_front : (text rest : List ℕ) (n : ℕ) → PathFront text rest n → n ≤ 24
     → (path : List ℕ) × IsPath path × (text ≡ path ++ rest)
 path_front text rest n g few = (
   g.root ++ flat_map part_text g.gone.items,

@@ -5,11 +5,11 @@ use Rattle.std.specs.Prelude.{Option, Some, None, Result, Ok, Err, codes}
 use Rattle.std.specs.Option.{SomeIff}
 use Rattle.std.specs.Result.{OkIff, result_ok}
 use Rattle.std.specs.Fmt.{decimal, signed_decimal}
-use Rattle.giop_lines.specs.Numbers.{IsInteger, IsNegative}
+use Rattle.giop_lines.specs.Numbers.{IsInteger, IsNegativeDigits}
 use Rattle.giop_lines.proofs.Decimals.{is_written, same_number, AllDigits-at, is_digit_octet}
 
 pub negative_is : (ds : List ℕ) (n : ℕ) (r : Option ℤ) → ds ≡ decimal n → 0 < n → n < 2 ^ 64
-    → SomeIff r (FitsSigned w64 (pos 0 -ℤ pos n)) (pos 0 -ℤ pos n) → IsNegative ds r
+    → SomeIff r (FitsSigned w64 (pos 0 -ℤ pos n)) (pos 0 -ℤ pos n) → IsNegativeDigits ds r
 negative_is ds zero r e some lt h = absurd (omega arith)
 negative_is ds (suc k) (Some z) e some lt h = (k, h.1 ∙ +ℤ_idl (negsuc k), e)
 negative_is ds (suc k) None e some lt h = λ m more le e2.
@@ -25,7 +25,7 @@ no_sign ds n lt e =
     omega (arith, d.0)
 
 pub integer_negative : (text ds : List ℕ) (r : Option ℤ) → text ≡ codes "-" ++ ds
-    → IsNegative ds r → IsInteger text r
+    → IsNegativeDigits ds r → IsInteger text r
 integer_negative text ds (Some z) e h =
     e ∙ ap (λ (xs : List ℕ). 45 ∷ xs) h.2 ∙ ap signed_decimal (sym h.1)
 integer_negative text ds None e h = λ z fits e2. signs z fits (sym e ∙ e2)

@@ -5,7 +5,7 @@ use Rattle.std.specs.List.{list_all, prefix_len}
 use Rattle.std.proofs.lemmas.List.Elements.{All-nil, All-cons}
 use Rattle.giop_print.specs.Text.{is_plain, escaped, escaped_octet, hex, hex_octet, hex_digit}
 use Rattle.giop_lines.specs.Numbers.{is_hex_digit}
-use Rattle.giop_lines.specs.Texts.{IsText, AreOctets}
+use Rattle.giop_lines.specs.Texts.{IsEscapedText, AreHexOctets}
 use Rattle.giop_lines.proofs.Digits.{low_digit, high_digit, escaped_plain}
 
 both : (x y : Bool) → (x && y) ≡ true → (x ≡ true) × (y ≡ true)
@@ -50,7 +50,7 @@ all_plain (x ∷ xs) e =
 
 -- octets that stand for themselves are a text
 pub plain_text : (most : ℕ) (xs : List ℕ) → list_all is_plain xs ≡ true → length xs ≤ most
-    → IsText most xs
+    → IsEscapedText most xs
 unfolding escaped
 plain_text most xs e le =
     let all = all_plain xs e in record { octets = xs; small = all.0; few = le; spelled = all.1 }
@@ -68,13 +68,13 @@ digit_of b e =
           (b - 97 + 10, omega arith, high_digit (b - 97) (omega arith) ∙ omega arith)
     ]
 
-record Pairs (digits : List ℕ) : Type 0 where
+record HexPairs (digits : List ℕ) : Type 0 where
   octets : List ℕ
   small : All (λ x. x < 256) octets
   many : 2 * length octets ≡ length digits
   spelled : digits ≡ flat_map hex_octet octets
 
-pairs : (ds : List ℕ) → length ds % 2 ≡ 0 → list_all is_hex_digit ds ≡ true → Pairs ds
+pairs : (ds : List ℕ) → length ds % 2 ≡ 0 → list_all is_hex_digit ds ≡ true → HexPairs ds
 pairs [] even e =
     record { octets = []; small = All-nil (λ x. x < 256); many = refl; spelled = refl }
 pairs (a ∷ []) even e = absurd (omega (arith, even))
@@ -98,7 +98,7 @@ pairs (a ∷ b ∷ ds) even e =
 
 -- an even number of digits are octets
 pub digits_octets : (ds : List ℕ) → 0 < length ds → length ds % 2 ≡ 0 → length ds / 2 ≤ 32
-    → list_all is_hex_digit ds ≡ true → AreOctets ds
+    → list_all is_hex_digit ds ≡ true → AreHexOctets ds
 unfolding hex
 digits_octets ds some even few e =
     let p = pairs ds even e in

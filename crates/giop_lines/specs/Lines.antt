@@ -10,25 +10,25 @@ use Rattle.giop_lines.specs.declared.line.Fault.{Fault}
 use Rattle.giop_lines.specs.declared.line.StreamStart.{StreamStart}
 use Rattle.giop_lines.specs.declared.line.Total.{Total}
 use Rattle.giop_lines.specs.declared.line.CaptureTotal.{CaptureTotal}
-use Rattle.giop_lines.specs.declared.line.Said.{Said}
-use Rattle.giop_lines.specs.declared.line.Said.TheVariants as said
+use Rattle.giop_lines.specs.declared.line.Statement.{Statement}
+use Rattle.giop_lines.specs.declared.line.Statement.TheVariants as said
 use Rattle.giop_lines.specs.declared.line.DumpLine.{DumpLine}
-use Rattle.giop_lines.specs.Names.{is_name, is_word, is_type_word, is_printed}
-use Rattle.giop_lines.specs.Texts.{AreOctets}
+use Rattle.giop_lines.specs.Names.{is_graphic_name, is_fault_or_closing_word, is_message_type_word, is_printable_text}
+use Rattle.giop_lines.specs.Texts.{AreHexOctets}
 use Rattle.giop_lines.specs.Paths.{IsPath}
 use Rattle.giop_lines.specs.Values.{value_text, IsValue}
 
 -- a word and a number, if there is one
-abbrev pub with_number : List ℕ → Option ℕ → List ℕ
-with_number word None = []
-with_number word (Some n) = word ++ decimal n
+abbrev pub word_with_number : (word : List ℕ) (number : Option ℕ) → List ℕ
+word_with_number word None = []
+word_with_number word (Some number) = word ++ decimal number
 
 -- a space and a name, if there is one
-abbrev pub spaced_name : Option (Bor (List ℕ)) → List ℕ
+abbrev pub spaced_name : (name : Option (Bor (List ℕ))) → List ℕ
 spaced_name None = []
 spaced_name (Some name) = codes " " ++ name.now
 
-abbrev pub found_word : Bool → List ℕ
+abbrev pub found_word : (found : Bool) → List ℕ
 found_word true = codes " found"
 found_word false = []
 
@@ -41,7 +41,7 @@ call_text c = codes "call " ++ (decimal c.id ++ (codes " " ++ (c.operation.now
     ++ spaced_name c.interface)))
 
 abbrev pub time_text : Time → List ℕ
-time_text t = codes "time " ++ (t.time.now ++ with_number (codes " packet ") t.packet)
+time_text t = codes "time " ++ (t.time.now ++ word_with_number (codes " packet ") t.packet)
 
 abbrev pub answers_text : Answers → List ℕ
 answers_text a = codes "answers s" ++ (decimal a.stream ++ (codes " m" ++ (decimal a.message
@@ -53,8 +53,8 @@ fault_text f = f.word.now ++ (codes " at " ++ decimal f.place)
 
 abbrev pub stream_text : StreamStart → List ℕ
 stream_text s = codes "stream " ++ (s.source.now ++ (codes " > " ++ (s.target.now ++ (codes " at "
-    ++ (s.time.now ++ (with_number (codes " with s") s.with
-    ++ (with_number (codes " behind ") s.behind ++ found_word s.found)))))))
+    ++ (s.time.now ++ (word_with_number (codes " with s") s.with
+    ++ (word_with_number (codes " behind ") s.behind ++ found_word s.found)))))))
 
 abbrev pub total_text : Total → List ℕ
 total_text t = codes "total messages " ++ (decimal t.messages ++ (codes " faults "
@@ -64,62 +64,66 @@ abbrev pub capture_text : CaptureTotal → List ℕ
 capture_text t = codes "total streams " ++ (decimal t.streams ++ (codes " messages "
     ++ (decimal t.messages ++ (codes " faults " ++ (decimal t.faults ++ (codes " packets "
     ++ (decimal t.packets ++ (codes " octets " ++ (decimal t.octets
-    ++ with_number (codes " other ") t.other)))))))))
+    ++ word_with_number (codes " other ") t.other)))))))))
 
-abbrev pub said_text : Said → List ℕ
-said_text (said.Start s) = start_text s
-said_text (said.Value path v) = path.now ++ (codes " " ++ value_text v)
-said_text (said.Rest offset octets) =
+abbrev pub statement_text : Statement → List ℕ
+statement_text (said.Start s) = start_text s
+statement_text (said.Value path v) = path.now ++ (codes " " ++ value_text v)
+statement_text (said.Rest offset octets) =
     codes "rest @" ++ (decimal offset ++ (codes " " ++ octets.now))
-said_text (said.Call c) = call_text c
-said_text (said.Time t) = time_text t
-said_text (said.Answers a) = answers_text a
-said_text (said.Raises id) = codes "raises " ++ id.now
-said_text (said.Continues message) = codes "continues m" ++ decimal message
-said_text (said.Cancelled message) = codes "cancelled by m" ++ decimal message
-said_text (said.Fault f) = codes "fault " ++ fault_text f
-said_text said.Unfinished = codes "unfinished"
-said_text said.End = codes "end"
-said_text (said.Stream s) = stream_text s
-said_text (said.StreamFault f) = codes "stream fault " ++ fault_text f
-said_text (said.Closed word) = codes "closed " ++ word.now
-said_text (said.Total t) = total_text t
-said_text (said.CaptureFault f) = codes "capture fault " ++ fault_text f
-said_text (said.CaptureTotal t) = capture_text t
-said_text (said.Later text) = text.now
+statement_text (said.Call c) = call_text c
+statement_text (said.Time t) = time_text t
+statement_text (said.Answers a) = answers_text a
+statement_text (said.Raises id) = codes "raises " ++ id.now
+statement_text (said.Continues message) = codes "continues m" ++ decimal message
+statement_text (said.Cancelled message) = codes "cancelled by m" ++ decimal message
+statement_text (said.Fault f) = codes "fault " ++ fault_text f
+statement_text said.Unfinished = codes "unfinished"
+statement_text said.End = codes "end"
+statement_text (said.Stream s) = stream_text s
+statement_text (said.StreamFault f) = codes "stream fault " ++ fault_text f
+statement_text (said.Closed word) = codes "closed " ++ word.now
+statement_text (said.Total t) = total_text t
+statement_text (said.CaptureFault f) = codes "capture fault " ++ fault_text f
+statement_text (said.CaptureTotal t) = capture_text t
+statement_text (said.Later text) = text.now
 
 -- the text with a letter and a number before it; the number is left out if it is 0
-abbrev pub numbered : List ℕ → ℕ → List ℕ → List ℕ
-numbered letter zero rest = rest
-numbered letter (suc n) rest = letter ++ (decimal (suc n) ++ (codes " " ++ rest))
+abbrev pub prefixed_by_number : (letter : List ℕ) (number : ℕ) (rest : List ℕ) → List ℕ
+prefixed_by_number letter zero rest = rest
+prefixed_by_number letter (suc number) rest =
+    letter ++ (decimal (suc number) ++ (codes " " ++ rest))
 
 abbrev pub line_text : DumpLine → List ℕ
-line_text l = numbered (codes "s") l.stream (numbered (codes "m") l.message (said_text l.said))
+line_text l = prefixed_by_number (codes "s") l.stream
+    (prefixed_by_number (codes "m") l.message (statement_text l.said))
 
 -- a message type: a word, or a number
-abbrev pub IsType : List ℕ → Type 0
-IsType kind = (is_type_word kind ≡ true) ⊎ ((n : ℕ) × (n < 256) × (kind ≡ decimal n))
+abbrev pub IsTypeWordOrNumber : (kind : List ℕ) → Type 0
+IsTypeWordOrNumber kind = (is_message_type_word kind ≡ true) ⊎ ((n : ℕ) × (n < 256) × (kind ≡
+    decimal n))
 
 -- two numbers that aren't 0, if they are there
-abbrev pub AreSome : Option ℕ × Option ℕ → Type 0
-AreSome p = IfSome p.0 (λ n. 0 < n) × IfSome p.1 (λ n. 0 < n)
+abbrev pub AreNonzero : (pair : Option ℕ × Option ℕ) → Type 0
+AreNonzero pair = IfSome pair.0 (λ n. 0 < n) × IfSome pair.1 (λ n. 0 < n)
 
 -- what the fields of a line may be, beyond the ranges of their numbers
-abbrev pub IsSaid : Said → Type 0
-IsSaid (said.Start s) = (s.minor < 3) × IsType s.kind.now
-IsSaid (said.Value path v) = IsPath path.now × IsValue v
-IsSaid (said.Rest offset octets) = AreOctets octets.now
-IsSaid (said.Call c) = (is_name c.operation.now ≡ true)
-    × IfSome c.interface (λ name. is_name name.now ≡ true)
-IsSaid (said.Time t) = IfSome t.packet (λ n. 0 < n)
-IsSaid (said.Answers a) = (0 < a.stream) × (0 < a.message) × (is_name a.operation.now ≡ true)
-IsSaid (said.Raises id) = is_name id.now ≡ true
-IsSaid (said.Continues message) = 0 < message
-IsSaid (said.Cancelled message) = 0 < message
-IsSaid (said.Fault f) = is_word f.word.now ≡ true
-IsSaid (said.Stream s) = AreSome (s.with, s.behind)
-IsSaid (said.StreamFault f) = is_word f.word.now ≡ true
-IsSaid (said.Closed word) = is_word word.now ≡ true
-IsSaid (said.CaptureFault f) = is_word f.word.now ≡ true
-IsSaid (said.Later text) = is_printed text.now ≡ true
-IsSaid other = Unit {0}
+abbrev pub IsStatement : Statement → Type 0
+IsStatement (said.Start s) = (s.minor < 3) × IsTypeWordOrNumber s.kind.now
+IsStatement (said.Value path v) = IsPath path.now × IsValue v
+IsStatement (said.Rest offset octets) = AreHexOctets octets.now
+IsStatement (said.Call c) = (is_graphic_name c.operation.now ≡ true)
+    × IfSome c.interface (λ name. is_graphic_name name.now ≡ true)
+IsStatement (said.Time t) = IfSome t.packet (λ n. 0 < n)
+IsStatement (said.Answers a) = (0 < a.stream) × (0 < a.message)
+    × (is_graphic_name a.operation.now ≡ true)
+IsStatement (said.Raises id) = is_graphic_name id.now ≡ true
+IsStatement (said.Continues message) = 0 < message
+IsStatement (said.Cancelled message) = 0 < message
+IsStatement (said.Fault f) = is_fault_or_closing_word f.word.now ≡ true
+IsStatement (said.Stream s) = AreNonzero (s.with, s.behind)
+IsStatement (said.StreamFault f) = is_fault_or_closing_word f.word.now ≡ true
+IsStatement (said.Closed word) = is_fault_or_closing_word word.now ≡ true
+IsStatement (said.CaptureFault f) = is_fault_or_closing_word f.word.now ≡ true
+IsStatement (said.Later text) = is_printable_text text.now ≡ true
+IsStatement other = Unit {0}

@@ -8,8 +8,8 @@ use Rattle.giop_lines.specs.declared.line.Content.TheVariants as contents
 use Rattle.giop_lines.specs.declared.line.Piece.{Piece}
 use Rattle.giop_lines.specs.declared.line.Value.{Value}
 use Rattle.giop_lines.specs.declared.line.Value.TheVariants as values
-use Rattle.giop_lines.specs.Names.{is_part_name}
-use Rattle.giop_lines.specs.Texts.{IsText, AreOctets}
+use Rattle.giop_lines.specs.Names.{is_member_name}
+use Rattle.giop_lines.specs.Texts.{IsEscapedText, AreHexOctets}
 
 -- the word of a content's kind
 abbrev pub content_word : Content → List ℕ
@@ -19,15 +19,15 @@ content_word contents.WideString = codes "wstring "
 content_word contents.WideChar = codes "wchar "
 content_word contents.Rest = codes "rest "
 
-abbrev pub in_quotes : List ℕ → List ℕ
+abbrev pub in_quotes : (text : List ℕ) → List ℕ
 in_quotes text = codes "\"" ++ (text ++ codes "\"")
 
 -- a space and some digits
-abbrev pub spaced_digits : List ℕ → List ℕ
+abbrev pub spaced_digits : (digits : List ℕ) → List ℕ
 spaced_digits [] = []
 spaced_digits (d ∷ ds) = codes " " ++ (d ∷ ds)
 
-abbrev pub content_text : Content → List ℕ → List ℕ
+abbrev pub content_text : (content : Content) (octets : List ℕ) → List ℕ
 content_text contents.Text octets = codes " " ++ in_quotes octets
 content_text contents.Octets octets = spaced_digits octets
 content_text contents.WideString octets = spaced_digits octets
@@ -35,12 +35,12 @@ content_text contents.WideChar octets = spaced_digits octets
 content_text contents.Rest octets = spaced_digits octets
 
 -- a content that is written in hexadecimal, and may be empty
-abbrev pub IsHexadecimal : Content → Type 0
-IsHexadecimal contents.Text = ⊥
-IsHexadecimal contents.Octets = Unit {0}
-IsHexadecimal contents.WideString = Unit {0}
-IsHexadecimal contents.WideChar = Unit {0}
-IsHexadecimal contents.Rest = ⊥
+abbrev pub IsHexContent : Content → Type 0
+IsHexContent contents.Text = ⊥
+IsHexContent contents.Octets = Unit {0}
+IsHexContent contents.WideString = Unit {0}
+IsHexContent contents.WideChar = Unit {0}
+IsHexContent contents.Rest = ⊥
 
 -- a piece after the word of its kind
 abbrev pub piece_text : Piece → List ℕ
@@ -66,20 +66,20 @@ value_text (values.Encapsulation n) = codes "encapsulation " ++ decimal n
 value_text (values.Order order) = codes "order " ++ order_word order
 value_text (values.Piece piece) = content_word piece.content ++ piece_text piece
 
-abbrev pub MayBeOctets : List ℕ → Type 0
-MayBeOctets octets = (octets ≡ []) ⊎ AreOctets octets
+abbrev pub AreHexOctetsOrNone : (octets : List ℕ) → Type 0
+AreHexOctetsOrNone octets = (octets ≡ []) ⊎ AreHexOctets octets
 
 -- what the octets of a piece may be
-abbrev pub AreContent : Content → List ℕ → Type 0
-AreContent contents.Text octets = IsText 32 octets
-AreContent contents.Octets octets = MayBeOctets octets
-AreContent contents.WideString octets = MayBeOctets octets
-AreContent contents.WideChar octets = MayBeOctets octets
-AreContent contents.Rest octets = AreOctets octets
+abbrev pub AreOctetsOfContent : (content : Content) (octets : List ℕ) → Type 0
+AreOctetsOfContent contents.Text octets = IsEscapedText 32 octets
+AreOctetsOfContent contents.Octets octets = AreHexOctetsOrNone octets
+AreOctetsOfContent contents.WideString octets = AreHexOctetsOrNone octets
+AreOctetsOfContent contents.WideChar octets = AreHexOctetsOrNone octets
+AreOctetsOfContent contents.Rest octets = AreHexOctets octets
 
 -- what the fields of a value may be, beyond the ranges of their numbers
 abbrev pub IsValue : Value → Type 0
-IsValue (values.Char c) = IsText 1 c.now
-IsValue (values.Enum name) = is_part_name name.now ≡ true
-IsValue (values.Piece piece) = AreContent piece.content piece.octets.now
+IsValue (values.Char c) = IsEscapedText 1 c.now
+IsValue (values.Enum name) = is_member_name name.now ≡ true
+IsValue (values.Piece piece) = AreOctetsOfContent piece.content piece.octets.now
 IsValue other = Unit {0}

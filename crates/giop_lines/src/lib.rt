@@ -15,10 +15,10 @@ mod values;
 mod words;
 
 pub use line::{
-    Answers, Call, CaptureTotal, Content, DumpLine, Fault, Piece, Said, Start, StreamStart, Time,
-    Total, Value,
+    Answers, Call, CaptureTotal, Content, DumpLine, Fault, Piece, Start, Statement, StreamStart,
+    Time, Total, Value,
 };
 pub use numbers::{integer, number, ordinal};
-pub use paths::{Part, first_part};
+pub use paths::{PathPart, first_part};
 pub use reading::{LINE_MAX, read};
 pub use texts::first_octet;

@@ -10,12 +10,12 @@ pub struct DumpLine<'a> {
     /// The number of its message, from 1; 0 if it names none.
     pub message: u64,
     /// What the line says about them.
-    pub said: Said<'a>,
+    pub said: Statement<'a>,
 }
 
 /// What a line says about its message, its stream or its capture.
 #[derive(Clone, Copy)]
-pub enum Said<'a> {
+pub enum Statement<'a> {
     /// The header of a message.
     Start(Start<'a>),
     /// A value, after its path (`first_part` takes the path apart).

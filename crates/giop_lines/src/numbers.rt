@@ -1,7 +1,7 @@
 //! Numbers as the lines have them. Each number has only one form.
 
 ghost use Rattle.std.specs.Prelude.{◌≡◌, ◌^◌, IfSome, true};
-ghost use Rattle.giop_lines.specs.Numbers.{IsNumberBelow, IsOrdinal, IsInteger, IsNegative, IsDigit, IsBits, is_hex_digit};
+ghost use Rattle.giop_lines.specs.Numbers.{IsNumberBelow, IsOrdinal, IsInteger, IsNegativeDigits, IsHexDigitValue, IsHexNumber, is_hex_digit};
 
 use crate::words::after;
 
@@ -50,21 +50,21 @@ pub fn integer(text: &[u8]) -> Option<i64>
     ensures { IsInteger text.now result }
 {
     match after(text, b"-") {
-        Some(digits) => negative(digits),
+        Some(digits) => negative_of_digits(digits),
         None => i64::try_from(number(text)?).ok(),
     }
 }
 
 /// The number from -2^63 to -1 that has these decimal digits after its sign.
-fn negative(digits: &[u8]) -> Option<i64>
-    ensures { IsNegative digits.now result }
+fn negative_of_digits(digits: &[u8]) -> Option<i64>
+    ensures { IsNegativeDigits digits.now result }
 {
     0i64.checked_sub_unsigned(ordinal(digits)?)
 }
 
 /// The value of a lower-case hexadecimal digit.
-pub fn digit(octet: u8) -> Option<u8>
-    ensures { IsDigit octet result }
+pub fn hex_digit_value(octet: u8) -> Option<u8>
+    ensures { IsHexDigitValue octet result }
 {
     if octet.is_ascii_digit() {
         Some(octet - b'0')
@@ -76,22 +76,22 @@ pub fn digit(octet: u8) -> Option<u8>
 }
 
 /// Whether an octet is a lower-case hexadecimal digit.
-pub fn is_digit(octet: u8) -> bool
+pub fn is_hex_digit(octet: u8) -> bool
     ensures { result ≡ is_hex_digit octet }
 {
     octet.is_ascii_digit() || octet >= b'a' && octet <= b'f'
 }
 
 /// The number that at most 16 lower-case hexadecimal digits are.
-pub fn bits(digits: &[u8]) -> Option<u64>
-    ensures { IfSome result (IsBits digits.now) }
+pub fn number_of_hex_digits(digits: &[u8]) -> Option<u64>
+    ensures { IfSome result (IsHexNumber digits.now) }
 {
     if digits.len() > 16 {
         return None;
     }
     let mut n: u64 = 0;
     for octet in digits {
-        n = n * 16 + u64::from(digit(*octet)?);
+        n = n * 16 + u64::from(hex_digit_value(*octet)?);
     }
     Some(n)
 }

@@ -3,9 +3,9 @@
 ghost use Rattle.std.specs.Prelude.{◌≡◌, true};
 ghost use Rattle.std.specs.List.{list_all};
 ghost use Rattle.giop_print.specs.Text.{is_plain};
-ghost use Rattle.giop_lines.specs.Texts.{IsFirstOctet, IsEscaped, IsPair, IsText};
+ghost use Rattle.giop_lines.specs.Texts.{IsFirstOctet, IsEscapeDigits, IsHexPair, IsEscapedText};
 
-use crate::numbers::digit;
+use crate::numbers::hex_digit_value;
 use crate::words::after;
 
 /// Whether an octet stands for itself: it is from 20 to 7e, but neither the quote nor the backslash.
@@ -35,14 +35,14 @@ pub fn first_octet(text: &[u8]) -> Option<(u8, &[u8])>
     if is_plain(*octet) {
         return Some((*octet, rest));
     }
-    escape(after(text, b"\\x")?)
+    octet_of_escape(after(text, b"\\x")?)
 }
 
 /// The octet whose two digits are at the front of a text, if it doesn't stand for itself, and what follows them.
-fn escape(digits: &[u8]) -> Option<(u8, &[u8])>
-    ensures { IsEscaped digits.now result }
+fn octet_of_escape(digits: &[u8]) -> Option<(u8, &[u8])>
+    ensures { IsEscapeDigits digits.now result }
 {
-    let (octet, rest) = pair(digits)?;
+    let (octet, rest) = hex_pair(digits)?;
     if is_plain(octet) {
         None
     } else {
@@ -51,19 +51,19 @@ fn escape(digits: &[u8]) -> Option<(u8, &[u8])>
 }
 
 /// The octet whose two hexadecimal digits are at the front of a text, and what follows them.
-pub fn pair(digits: &[u8]) -> Option<(u8, &[u8])>
-    ensures { IsPair digits.now result }
+pub fn hex_pair(digits: &[u8]) -> Option<(u8, &[u8])>
+    ensures { IsHexPair digits.now result }
 {
     if digits.len() < 2 {
         return None;
     }
-    let octet = digit(digits[0])? * 16 + digit(digits[1])?;
+    let octet = hex_digit_value(digits[0])? * 16 + hex_digit_value(digits[1])?;
     Some((octet, &digits[2..]))
 }
 
 /// Whether this is the text of at most `most` octets.
-pub fn is_text(text: &[u8], most: u32) -> bool
-    ensures { result ≡ true → IsText most text.now }
+pub fn is_escaped_text(text: &[u8], most: u32) -> bool
+    ensures { result ≡ true → IsEscapedText most text.now }
 {
     if are_plain(text) {
         return text.len() as u64 <= u64::from(most);

@@ -5,11 +5,11 @@ ghost use Rattle.giop_print.specs.Lines.{order_word};
 ghost use Rattle.giop_lines.specs.Values.{value_text, IsValue};
 
 use crate::line::{Content, Value};
-use crate::names::{is_called, is_part_name};
-use crate::numbers::{bits, integer, number, ulong};
+use crate::names::{is_member_name, is_number_name};
+use crate::numbers::{integer, number, number_of_hex_digits, ulong};
 use crate::pieces::{octets_piece, rest_piece, text_piece};
-use crate::texts::is_text;
-use crate::words::{after, before, first_word};
+use crate::texts::is_escaped_text;
+use crate::words::{after, before, split_at_space_if_any};
 use giop_cdr::Order;
 
 /// Reads a value of a known kind.
@@ -18,14 +18,15 @@ pub fn value(text: &[u8]) -> Option<Value<'_>>
     ensures fields { IfSome result IsValue }
 {
     match text {
-        [b's', ..] | [b'o', ..] => value_s_o(text),
-        [b'u', ..] | [b'l', ..] => value_u_l(text),
-        [b'b', ..] | [b'e', ..] | [b'c', ..] => value_b_e_c(text),
-        _ => value_else(text),
+        [b's', ..] | [b'o', ..] => value_of_s_or_o(text),
+        [b'u', ..] | [b'l', ..] => value_of_u_or_l(text),
+        [b'b', ..] | [b'e', ..] | [b'c', ..] => value_of_b_e_or_c(text),
+        _ => value_of_other_kind(text),
     }
 }
 
-fn value_s_o(text: &[u8]) -> Option<Value<'_>>
+/// Reads a value whose kind begins with `s` or `o`.
+fn value_of_s_or_o(text: &[u8]) -> Option<Value<'_>>
     ensures spelled { IfSome result (λ v. text.now ≡ value_text v) }
     ensures fields { IfSome result IsValue }
 {
@@ -41,15 +42,16 @@ fn value_s_o(text: &[u8]) -> Option<Value<'_>>
     if let Some(rest) = after(text, b"short ") {
         return Some(Value::Short(i16::try_from(integer(rest)?).ok()?));
     }
-    Some(Value::Order(order(after(text, b"order ")?)?))
+    Some(Value::Order(order_of_word(after(text, b"order ")?)?))
 }
 
-fn value_u_l(text: &[u8]) -> Option<Value<'_>>
+/// Reads a value whose kind begins with `u` or `l`.
+fn value_of_u_or_l(text: &[u8]) -> Option<Value<'_>>
     ensures spelled { IfSome result (λ v. text.now ≡ value_text v) }
     ensures fields { IfSome result IsValue }
 {
     if let Some(rest) = after(text, b"ulong ") {
-        return unsigned_long(rest);
+        return ulong_value(rest);
     }
     if let Some(rest) = after(text, b"long ") {
         return Some(Value::Long(i32::try_from(integer(rest)?).ok()?));
@@ -63,34 +65,36 @@ fn value_u_l(text: &[u8]) -> Option<Value<'_>>
     Some(Value::LongLong(integer(after(text, b"longlong ")?)?))
 }
 
-fn value_b_e_c(text: &[u8]) -> Option<Value<'_>>
+/// Reads a value whose kind begins with `b`, `e` or `c`.
+fn value_of_b_e_or_c(text: &[u8]) -> Option<Value<'_>>
     ensures spelled { IfSome result (λ v. text.now ≡ value_text v) }
     ensures fields { IfSome result IsValue }
 {
     if let Some(rest) = after(text, b"boolean ") {
-        return boolean(rest);
+        return boolean_value(rest);
     }
     if let Some(rest) = after(text, b"enum ") {
-        return name_of_enum(rest);
+        return enum_value(rest);
     }
     if let Some(rest) = after(text, b"count ") {
         return Some(Value::Count(ulong(rest)?));
     }
     if let Some(rest) = after(text, b"char ") {
-        return char(rest);
+        return char_value(rest);
     }
     Some(Value::Encapsulation(ulong(after(text, b"encapsulation ")?)?))
 }
 
-fn value_else(text: &[u8]) -> Option<Value<'_>>
+/// Reads a value whose kind begins with another letter.
+fn value_of_other_kind(text: &[u8]) -> Option<Value<'_>>
     ensures spelled { IfSome result (λ v. text.now ≡ value_text v) }
     ensures fields { IfSome result IsValue }
 {
     if let Some(rest) = after(text, b"double ") {
-        return double(rest);
+        return double_value(rest);
     }
     if let Some(rest) = after(text, b"float ") {
-        return float(rest);
+        return float_value(rest);
     }
     if let Some(rest) = after(text, b"rest ") {
         return rest_piece(rest);
@@ -101,31 +105,32 @@ fn value_else(text: &[u8]) -> Option<Value<'_>>
     octets_piece(Content::WideChar, after(text, b"wchar ")?)
 }
 
-fn unsigned_long(text: &[u8]) -> Option<Value<'_>>
+/// Reads a `ulong`, after the word of its kind. The name of its number may follow it.
+fn ulong_value(text: &[u8]) -> Option<Value<'_>>
     ensures spelled { IfSome result (λ v. codes "ulong " ++ text.now ≡ value_text v) }
     ensures fields { IfSome result IsValue }
 {
-    let (digits, name) = first_word(text);
+    let (digits, name) = split_at_space_if_any(text);
     let n = ulong(digits)?;
     match name {
         None => Some(Value::ULong(n)),
-        Some(name) if is_called(name) => Some(Value::Named(n, name)),
+        Some(name) if is_number_name(name) => Some(Value::Named(n, name)),
         Some(_) => None,
     }
 }
 
-fn name_of_enum(text: &[u8]) -> Option<Value<'_>>
+fn enum_value(text: &[u8]) -> Option<Value<'_>>
     ensures spelled { IfSome result (λ v. codes "enum " ++ text.now ≡ value_text v) }
     ensures fields { IfSome result IsValue }
 {
-    if is_part_name(text) {
+    if is_member_name(text) {
         Some(Value::Enum(text))
     } else {
         None
     }
 }
 
-fn boolean(text: &[u8]) -> Option<Value<'_>>
+fn boolean_value(text: &[u8]) -> Option<Value<'_>>
     ensures spelled { IfSome result (λ v. codes "boolean " ++ text.now ≡ value_text v) }
     ensures fields { IfSome result IsValue }
 {
@@ -136,42 +141,42 @@ fn boolean(text: &[u8]) -> Option<Value<'_>>
     }
 }
 
-fn char(text: &[u8]) -> Option<Value<'_>>
+fn char_value(text: &[u8]) -> Option<Value<'_>>
     ensures spelled { IfSome result (λ v. codes "char " ++ text.now ≡ value_text v) }
     ensures fields { IfSome result IsValue }
 {
     let octet = before(after(text, b"\"")?, b"\"")?;
-    if !octet.is_empty() && is_text(octet, 1) {
+    if !octet.is_empty() && is_escaped_text(octet, 1) {
         Some(Value::Char(octet))
     } else {
         None
     }
 }
 
-fn float(text: &[u8]) -> Option<Value<'_>>
+fn float_value(text: &[u8]) -> Option<Value<'_>>
     ensures spelled { IfSome result (λ v. codes "float " ++ text.now ≡ value_text v) }
     ensures fields { IfSome result IsValue }
 {
     if text.len() == 8 {
-        Some(Value::Float(u32::try_from(bits(text)?).ok()?))
+        Some(Value::Float(u32::try_from(number_of_hex_digits(text)?).ok()?))
     } else {
         None
     }
 }
 
-fn double(text: &[u8]) -> Option<Value<'_>>
+fn double_value(text: &[u8]) -> Option<Value<'_>>
     ensures spelled { IfSome result (λ v. codes "double " ++ text.now ≡ value_text v) }
     ensures fields { IfSome result IsValue }
 {
     if text.len() == 16 {
-        Some(Value::Double(bits(text)?))
+        Some(Value::Double(number_of_hex_digits(text)?))
     } else {
         None
     }
 }
 
 /// The byte order that a word names.
-pub fn order(word: &[u8]) -> Option<Order>
+pub fn order_of_word(word: &[u8]) -> Option<Order>
     ensures { IfSome result (λ o. word.now ≡ order_word o) }
 {
     match word {

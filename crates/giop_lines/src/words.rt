@@ -20,7 +20,7 @@ pub fn before<'a>(text: &'a [u8], end: &[u8]) -> Option<&'a [u8]>
 }
 
 /// What comes before the first space of a text, and what follows the space.
-pub fn word(text: &[u8]) -> Option<(&[u8], &[u8])>
+pub fn split_at_space(text: &[u8]) -> Option<(&[u8], &[u8])>
     ensures { IfSome result (λ w. text.now ≡ w.0.now ++ (codes " " ++ w.1.now)) }
 {
     for i in 0..text.len() {
@@ -32,11 +32,11 @@ pub fn word(text: &[u8]) -> Option<(&[u8], &[u8])>
 }
 
 /// What comes before the first space of a text, and what follows the space; or the whole text if it has no space.
-pub fn first_word(text: &[u8]) -> (&[u8], Option<&[u8]>)
+pub fn split_at_space_if_any(text: &[u8]) -> (&[u8], Option<&[u8]>)
     ensures { MatchOption result.1 (text.now ≡ result.0.now)
         (λ rest. text.now ≡ result.0.now ++ (codes " " ++ rest.now)) }
 {
-    match word(text) {
+    match split_at_space(text) {
         Some((front, rest)) => (front, Some(rest)),
         None => (text, None),
     }

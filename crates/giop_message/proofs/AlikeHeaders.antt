@@ -13,13 +13,13 @@ use Rattle.giop_cdr.specs.declared.prim.Primitive.TheVariants as prims
 use Rattle.giop_sig.specs.declared.types.Fixed.{Fixed}
 use Rattle.giop_sig.specs.declared.types.Fixed.TheVariants as fixeds
 use Rattle.giop_sig.specs.Kinds.{is_kind}
-use Rattle.giop_sig.specs.Types.{Cases, Scalar, Plain, Enum, Marked, interpreted_by, Ty, Single, Struct, tag_of}
+use Rattle.giop_sig.specs.Types.{Cases, Scalar, Plain, Enum, Marked, interpreted_by, Ty, Single, Struct, discriminator_name}
 use Rattle.giop_sig.specs.Table.{Part, Case, Node, case_part, case_with, name_of, node_in, selected}
 use Rattle.giop_sig.specs.Table as nodes
-use Rattle.giop_sig.specs.Trees.{Room, grow, grown_part, in_room, octet_type, room_of, scalar_of, selected_by, tree, tree_at}
-use Rattle.giop_sig.specs.Builtin.{builtin_types, number_in, older, renumbered, renumbered_case, renumbered_part}
-use Rattle.giop_sig.specs.AnyTypes.{any_types, first_table, first_types, third_types}
-use Rattle.giop_sig.specs.HeaderTypes.{BeginsWithId, cell_in, header_rows, header_type, fixed_type, third_fixed}
+use Rattle.giop_sig.specs.Trees.{PartLimits, tree_of_node, part_tree, node_in_room, octet_type, limits_in_room, scalar_or_octet, selected_by, tree, tree_at}
+use Rattle.giop_sig.specs.Builtin.{builtin_types, number_in_version, older_number, renumbered, renumbered_case, renumbered_part}
+use Rattle.giop_sig.specs.AnyTypes.{any_types, first_table, first_types, version_3_types}
+use Rattle.giop_sig.specs.HeaderTypes.{BeginsWithId, cell_of_minor, header_rows, header_type, fixed_type, fixed_type_in_version_3}
 use Rattle.giop_sig.proofs.Builtins.{header_built_in, in_older, in_third, later_older, leaf_older}
 use Rattle.giop_decode.specs.ReadResult
 use Rattle.giop_decode.specs.ReadResult.{PathSegment, Name, Switch, Held}
@@ -37,39 +37,41 @@ first_named = 13
 abbrev first_later : ℕ
 first_later = 17
 
-abbrev count : ℕ
-count = 45
+abbrev type_count : ℕ
+type_count = 45
 
 -- the type of a number without a name
 abbrev ulong : ℕ
 ulong = 6
 
 -- whether a type is one of the four
-abbrev is_named : ℕ → Bool
+abbrev is_named : (n : ℕ) → Bool
 is_named n = leb first_named n && ltb n first_later
 
 -- if a type is one of the four, it isn't at the path of a request id
-abbrev IsElsewhere : ℕ → List PathSegment → Type 0
+abbrev IsElsewhere : (n : ℕ) (path : List PathSegment) → Type 0
 IsElsewhere n path = is_named n ≡ true → is_member (codes "request_id") path ≡ false
 
-abbrev part_test : Part → Bool
-part_test p =
-    ltb p.type count && not (bytes_eq (codes "request_id") p.name && is_named p.type)
+abbrev has_unnamed_id_type : (part : Part) → Bool
+has_unnamed_id_type p =
+    ltb p.type type_count && not (bytes_eq (codes "request_id") p.name && is_named p.type)
 
 -- nodes that are made of built-in types, in which the number of a request id has no name
-abbrev node_test : Node → Bool
-node_test (nodes.members parts) = list_all part_test parts
-node_test (nodes.union switch cases otherwise) =
-    (ltb switch count && not (is_named switch)) && list_all (λ c. part_test c.part) cases
-node_test (nodes.sequence bound element) = ltb element count
-node_test (nodes.array size element) = ltb element count
-node_test (nodes.encapsulation held) = ltb held count
-node_test (nodes.tagged special tag inner other) = list_all part_test (tag ∷ inner ∷ other ∷ [])
-node_test (nodes.any code) = false
-node_test (nodes.typecode wide kind cases) = false
-node_test (nodes.announced place) = false
-node_test (nodes.recursive bound element) = false
-node_test node = true
+abbrev has_unnamed_id_types : Node → Bool
+has_unnamed_id_types (nodes.members parts) = list_all has_unnamed_id_type parts
+has_unnamed_id_types (nodes.union switch cases otherwise) =
+    (ltb switch type_count && not (is_named switch)) && list_all
+    (λ c. has_unnamed_id_type c.part) cases
+has_unnamed_id_types (nodes.sequence bound element) = ltb element type_count
+has_unnamed_id_types (nodes.array size element) = ltb element type_count
+has_unnamed_id_types (nodes.encapsulation held) = ltb held type_count
+has_unnamed_id_types (nodes.tagged special tag inner other) =
+    list_all has_unnamed_id_type (tag ∷ inner ∷ other ∷ [])
+has_unnamed_id_types (nodes.any code) = false
+has_unnamed_id_types (nodes.typecode wide kind cases) = false
+has_unnamed_id_types (nodes.announced place) = false
+has_unnamed_id_types (nodes.recursive bound element) = false
+has_unnamed_id_types node = true
 
 both_true : (a b : Bool) → (a && b) ≡ true → (a ≡ true) × (b ≡ true)
 both_true true b e = (refl, e)
@@ -104,7 +106,7 @@ held_member (a ∷ b ∷ path) = refl
 -- ---- scalars
 
 scalars_alike : (path : List PathSegment) (A B : Ty) → AreAlike path A B →
-    AreAlikeScalars path (scalar_of A) (scalar_of B)
+    AreAlikeScalars path (scalar_or_octet A) (scalar_or_octet B)
 scalars_alike path (Single x) (Single y) alike = alike
 scalars_alike path (Single x) _ alike = absurd alike
 scalars_alike path _ (Single y) alike = absurd alike
@@ -125,10 +127,10 @@ same_scalar x y (inr (mark, e, f, none, deep)) = absurd (false≢true (sym deep)
 
 -- if a discriminator is no tag, its type alone gives its name
 cases_tag : (n m : ℕ) (x y : Scalar) (names others : ℕ → List ℕ) → x ≡ y →
-    tag_of (Cases n) x names ≡ tag_of (Cases m) y others
-cases_tag n m x y names others e = go x ∙ ap (λ z. tag_of (Cases m) z others) e
+    discriminator_name (Cases n) x names ≡ discriminator_name (Cases m) y others
+cases_tag n m x y names others e = go x ∙ ap (λ z. discriminator_name (Cases m) z others) e
   where
-    go : (z : Scalar) → tag_of (Cases n) z names ≡ tag_of (Cases m) z others
+    go : (z : Scalar) → discriminator_name (Cases n) z names ≡ discriminator_name (Cases m) z others
     go (Plain p) = refl
     go (Enum size words) = refl
     go (Marked mark) = refl
@@ -143,43 +145,45 @@ case_parts : (f : ℕ → ℕ) (o : Option Case) →
 case_parts f None = refl
 case_parts f (Some c) = refl
 
-fit_part : (ps : List Part) (i : ℕ) → list_all part_test ps ≡ true →
-    IfSome (slice_get ps i) (λ p. part_test p ≡ true)
+fit_part : (ps : List Part) (i : ℕ) → list_all has_unnamed_id_type ps ≡ true →
+    IfSome (slice_get ps i) (λ p. has_unnamed_id_type p ≡ true)
 fit_part [] i e = tt
-fit_part (p ∷ ps) zero e = (both_true (part_test p) (list_all part_test ps) e).0
+fit_part (p ∷ ps) zero e = (both_true (has_unnamed_id_type p) (list_all has_unnamed_id_type ps) e).0
 fit_part (p ∷ ps) (suc i) e =
-    fit_part ps i (both_true (part_test p) (list_all part_test ps) e).1
+    fit_part ps i (both_true (has_unnamed_id_type p) (list_all has_unnamed_id_type ps) e).1
 
-fit_case : (cs : List Case) (i : ℕ) → list_all (λ c. part_test c.part) cs ≡ true →
-    IfSome (case_part (slice_get cs i)) (λ p. part_test p ≡ true)
+fit_case : (cs : List Case) (i : ℕ) → list_all (λ c. has_unnamed_id_type c.part) cs ≡ true →
+    IfSome (case_part (slice_get cs i)) (λ p. has_unnamed_id_type p ≡ true)
 fit_case [] i e = tt
 fit_case (c ∷ cs) zero e =
-    (both_true (part_test c.part) (list_all (λ c. part_test c.part) cs) e).0
+    (both_true (has_unnamed_id_type c.part) (list_all (λ c. has_unnamed_id_type c.part) cs) e).0
 fit_case (c ∷ cs) (suc i) e =
-    fit_case cs i (both_true (part_test c.part) (list_all (λ c. part_test c.part) cs) e).1
+    fit_case cs i (both_true (has_unnamed_id_type c.part) (list_all
+    (λ c. has_unnamed_id_type c.part) cs) e).1
 
 -- ---- nodes with numbers of two versions
 
-module _ (f g : ℕ → ℕ) (C D : ℕ → Ty) (each : (n : ℕ) → n < count →
+module _ (f g : ℕ → ℕ) (C D : ℕ → Ty) (each : (n : ℕ) → n < type_count →
     (path : List PathSegment) → IsElsewhere n path → AreAlike path (C (f n)) (D (g n))) where
-  abbrev AlikeParts : List PathSegment → Option Part → Option Part → Type 0
+  abbrev AlikeParts : (path : List PathSegment) (p q : Option Part) → Type 0
   AlikeParts path p q = (name_of p ≡ name_of q)
-      × AreAlike (path ++ Name (name_of p) ∷ []) (grown_part C p) (grown_part D q)
+      × AreAlike (path ++ Name (name_of p) ∷ []) (part_tree C p) (part_tree D q)
 
-  part_alike : (path : List PathSegment) (o : Option Part) → IfSome o (λ p. part_test p ≡ true) →
+  part_alike : (path : List PathSegment) (o : Option Part) →
+      IfSome o (λ p. has_unnamed_id_type p ≡ true) →
       AlikeParts path (option_map (renumbered_part f) o) (option_map (renumbered_part g) o)
   part_alike path None e = (refl, inl refl)
   part_alike path (Some p) e =
-      let tests = both_true (ltb p.type count)
+      let tests = both_true (ltb p.type type_count)
       (not (bytes_eq (codes "request_id") p.name && is_named p.type)) e in (
         refl,
-        each p.type (ltb-true p.type count tests.0) (path ++ Name p.name ∷ []) (λ named.
+        each p.type (ltb-true p.type type_count tests.0) (path ++ Name p.name ∷ []) (λ named.
             name_member path p.name
             (not_both (bytes_eq (codes "request_id") p.name) (is_named p.type) tests.1 named)),
       )
 
   parts_alike : (path : List PathSegment) (ps : List Part) (i : ℕ) →
-      list_all part_test ps ≡ true →
+      list_all has_unnamed_id_type ps ≡ true →
       AlikeParts path (slice_get (map (renumbered_part f) ps) i)
       (slice_get (map (renumbered_part g) ps) i)
   parts_alike path ps i e =
@@ -187,7 +191,7 @@ module _ (f g : ℕ → ℕ) (C D : ℕ → Ty) (each : (n : ℕ) → n < count 
       (part_alike path (slice_get ps i) (fit_part ps i e))
 
   cases_alike : (path : List PathSegment) (cs : List Case) (i : ℕ) →
-      list_all (λ c. part_test c.part) cs ≡ true →
+      list_all (λ c. has_unnamed_id_type c.part) cs ≡ true →
       AlikeParts path (case_part (slice_get (map (renumbered_case f) cs) i))
       (case_part (slice_get (map (renumbered_case g) cs) i))
   cases_alike path cs i e =
@@ -211,22 +215,23 @@ module _ (f g : ℕ → ℕ) (C D : ℕ → Ty) (each : (n : ℕ) → n < count 
       go None = refl
       go (Some k) = same k
 
-  grown_alike : (h h' : Room) (room : ℕ) (path : List PathSegment) (node : Node) →
-      node_test node ≡ true → AreAlike path (grow h C (in_room room (renumbered f node)))
-      (grow h' D (in_room room (renumbered g node)))
+  grown_alike : (h h' : PartLimits) (room : ℕ) (path : List PathSegment) (node : Node) →
+      has_unnamed_id_types node ≡ true → AreAlike path (tree_of_node h C
+      (node_in_room room (renumbered f node)))
+      (tree_of_node h' D (node_in_room room (renumbered g node)))
   grown_alike h h' room path (nodes.members parts) e = (
     length-map parts (renumbered_part f) ∙ sym (length-map parts (renumbered_part g)),
     λ i. (parts_alike path parts i e).0,
     λ i. (parts_alike path parts i e).1,
   )
   grown_alike h h' room path (nodes.union switch cases otherwise) e =
-      let tests = both_true (ltb switch count && not (is_named switch))
-      (list_all (λ c. part_test c.part) cases) e in
-      let small = both_true (ltb switch count) (not (is_named switch)) tests.0 in
-      let x = scalar_of (C (f switch)) in
-      let y = scalar_of (D (g switch)) in
+      let tests = both_true (ltb switch type_count && not (is_named switch))
+      (list_all (λ c. has_unnamed_id_type c.part) cases) e in
+      let small = both_true (ltb switch type_count) (not (is_named switch)) tests.0 in
+      let x = scalar_or_octet (C (f switch)) in
+      let y = scalar_or_octet (D (g switch)) in
       let alike : AreAlikeScalars id_path x y = scalars_alike id_path (C (f switch)) (D (g switch))
-      (each switch (ltb-true switch count small.0) id_path
+      (each switch (ltb-true switch type_count small.0) id_path
       (λ named. absurd (false≢true (rw named at small.1)))) in (
         cases_tag (length (map (renumbered_case f) cases))
             (length (map (renumbered_case g) cases)) x y _ _ (same_scalar x y alike),
@@ -241,26 +246,27 @@ module _ (f g : ℕ → ℕ) (C D : ℕ → Ty) (each : (n : ℕ) → n < count 
   grown_alike h h' room path (nodes.sequence bound element) e = (
     refl,
     λ i.
-        each element (ltb-true element count e) (path ++ ReadResult.Index i ∷ [])
+        each element (ltb-true element type_count e) (path ++ ReadResult.Index i ∷ [])
         (λ named. index_member path i),
   )
   grown_alike h h' room path (nodes.array size element) e = (
     refl,
     λ i.
-        each element (ltb-true element count e) (path ++ ReadResult.Index i ∷ [])
+        each element (ltb-true element type_count e) (path ++ ReadResult.Index i ∷ [])
         (λ named. index_member path i),
   )
   grown_alike h h' room path (nodes.encapsulation held) e =
-      each held (ltb-true held count e) (path ++ Held ∷ []) (λ named. held_member path)
+      each held (ltb-true held type_count e) (path ++ Held ∷ []) (λ named. held_member path)
   grown_alike h h' room path (nodes.tagged special tag inner other) e =
       let place = path ++ Switch (Some tag.name) ∷ [] in
-      let test = both_true (ltb tag.type count)
+      let test = both_true (ltb tag.type type_count)
       (not (bytes_eq (codes "request_id") tag.name && is_named tag.type))
-      (both_true (part_test tag) (list_all part_test (inner ∷ other ∷ [])) e).0 in
-      let x = scalar_of (C (f tag.type)) in
-      let y = scalar_of (D (g tag.type)) in
+      (both_true (has_unnamed_id_type tag) (list_all has_unnamed_id_type (inner ∷ other
+      ∷ [])) e).0 in
+      let x = scalar_or_octet (C (f tag.type)) in
+      let y = scalar_or_octet (D (g tag.type)) in
       let alike : AreAlikeScalars place x y = scalars_alike place (C (f tag.type)) (D (g tag.type))
-      (each tag.type (ltb-true tag.type count test.0) place
+      (each tag.type (ltb-true tag.type type_count test.0) place
       (λ named. switch_member (codes "request_id") path (Some tag.name))) in (
         refl,
         alike,
@@ -283,70 +289,71 @@ module _ (f g : ℕ → ℕ) (C D : ℕ → Ty) (each : (n : ℕ) → n < count 
 fit_test : ℕ → List Node → Bool
 fit_test zero types = true
 fit_test (suc n) [] = true
-fit_test (suc n) (node ∷ types) = node_test node && fit_test n types
+fit_test (suc n) (node ∷ types) = has_unnamed_id_types node && fit_test n types
 
 fit_by : (n : ℕ) (types : List Node) (i : ℕ) → fit_test n types ≡ true → i < n →
-    node_test (node_in types i) ≡ true
+    has_unnamed_id_types (node_in types i) ≡ true
 unfolding fit_test
 fit_by zero types i e below = absurd (omega arith)
 fit_by (suc n) [] i e below = refl
-fit_by (suc n) (node ∷ types) zero e below = (both_true (node_test node) (fit_test n types) e).0
+fit_by (suc n) (node ∷ types) zero e below = (both_true (has_unnamed_id_types node)
+    (fit_test n types) e).0
 fit_by (suc n) (node ∷ types) (suc i) e below =
-    fit_by n types i (both_true (node_test node) (fit_test n types) e).1 (omega arith)
+    fit_by n types i (both_true (has_unnamed_id_types node) (fit_test n types) e).1 (omega arith)
 
-third_fit : (n : ℕ) → n < count → node_test (node_in third_types n) ≡ true
-unfolding fit_test third_types
-third_fit n below = fit_by count third_types n refl below
+third_fit : (n : ℕ) → n < type_count → has_unnamed_id_types (node_in version_3_types n) ≡ true
+unfolding fit_test version_3_types
+third_fit n below = fit_by type_count version_3_types n refl below
 
-third_len : count ≤ length third_types
-unfolding third_types any_types
+third_len : type_count ≤ length version_3_types
+unfolding version_3_types any_types
 third_len = lit≤ tt
 
-builtin_len : length builtin_types ≡ older count
+builtin_len : length builtin_types ≡ older_number type_count
 unfolding builtin_types
 builtin_len = refl
 
-older_leaf : (n : ℕ) → n < first_named → older n ≡ n
+older_leaf : (n : ℕ) → n < first_named → older_number n ≡ n
 older_leaf n less = rw (lt-ltb n first_named less) refl
 
-older_named : (n : ℕ) → first_named ≤ n → n < first_later → older n ≡ ulong
+older_named : (n : ℕ) → first_named ≤ n → n < first_later → older_number n ≡ ulong
 older_named n least less = rw (le-ltb n first_named least, lt-ltb n first_later less) refl
 
-older_later : (n : ℕ) → first_later ≤ n → older n ≡ n - 4
+older_later : (n : ℕ) → first_later ≤ n → older_number n ≡ n - 4
 older_later n least =
     rw (le-ltb n first_named (omega (arith, least)), le-ltb n first_later least) refl
 
 -- a type that isn't one of the four
-abbrev IsUnnamed : ℕ → Type 0
+abbrev IsUnnamed : (n : ℕ) → Type 0
 IsUnnamed n = (n < first_named) ⊎ (first_later ≤ n)
 
-older_node : (n : ℕ) → n < count → IsUnnamed n →
-    renumbered older (node_in third_types n) ≡ node_in builtin_types (older n)
+older_node : (n : ℕ) → n < type_count → IsUnnamed n →
+    renumbered older_number (node_in version_3_types n) ≡ node_in builtin_types (older_number n)
 older_node n below (inl less) =
     leaf_older n less (omega (arith, builtin_len))
     ∙ ap (node_in builtin_types) (sym (older_leaf n less))
 older_node n below (inr least) =
     let e : n - 4 + 4 ≡ n = omega arith in
-    ap (λ k. renumbered older (node_in third_types k)) (sym e)
+    ap (λ k. renumbered older_number (node_in version_3_types k)) (sym e)
     ∙ later_older (n - 4) (omega arith) (omega (arith, builtin_len))
     ∙ ap (node_in builtin_types) (sym (older_later n least))
 
-version_node : (version n : ℕ) → n < count → IsUnnamed n →
-    renumbered (number_in version) (node_in third_types n)
-    ≡ node_in (first_types version) (number_in version n)
+version_node : (version n : ℕ) → n < type_count → IsUnnamed n →
+    renumbered (number_in_version version) (node_in version_3_types n)
+    ≡ node_in (first_types version) (number_in_version version n)
 version_node version n below unnamed = go (version == 3) refl
   where
-    go : (v : Bool) → (version == 3) ≡ v → renumbered (number_in version) (node_in third_types n)
-        ≡ node_in (first_types version) (cond v n (older n))
+    go : (v : Bool) → (version == 3) ≡ v → renumbered (number_in_version version)
+        (node_in version_3_types n) ≡ node_in (first_types version) (cond v n (older_number n))
     go true e = in_third version n e
-        (subst (λ v. n < length (cond v third_types builtin_types)) (sym e)
+        (subst (λ v. n < length (cond v version_3_types builtin_types)) (sym e)
         (omega (arith, third_len)))
-    go false e = in_older version n (older n) e (older_node n below unnamed)
+    go false e = in_older version n (older_number n) e (older_node n below unnamed)
 
 -- the node of a number that has a name
 named_node : (k : ℕ) → k < 4 → (mark : ℕ)
-    × (node_in third_types (first_named + k) ≡ nodes.marked mark) × (is_kind mark ≡ false)
-unfolding third_types
+    × (node_in version_3_types (first_named + k) ≡ nodes.marked mark) × (is_kind mark ≡ false)
+unfolding version_3_types
 named_node zero below = (3, refl, refl)
 named_node (suc zero) below = (4, refl, refl)
 named_node (suc (suc zero)) below = (5, refl, refl)
@@ -357,83 +364,90 @@ ulong_node : node_in builtin_types ulong ≡ nodes.prim prims.ULong
 unfolding builtin_types
 ulong_node = refl
 
-module _ (h h' : Room) (C D : ℕ → Ty) (room : ℕ) (path : List PathSegment)
+module _ (h h' : PartLimits) (C D : ℕ → Ty) (room : ℕ) (path : List PathSegment)
     (elsewhere : is_member (codes "request_id") path ≡ false) where
   marks_alike : (node other : Node) (mark : ℕ) → node ≡ nodes.prim prims.ULong →
       (other ≡ nodes.marked mark) × (is_kind mark ≡ false) →
-      AreAlike path (grow h C (in_room room node)) (grow h' D (in_room room other))
+      AreAlike path (tree_of_node h C (node_in_room room node))
+      (tree_of_node h' D (node_in_room room other))
   marks_alike node other mark e (f, none) = rw (e, f) (inr (mark, refl, refl, none, elsewhere))
 
   named_alike : (v : Bool) (n : ℕ) → first_named ≤ n → n < first_later →
-      AreAlike path (grow h C (in_room room (node_in builtin_types (older n))))
-      (grow h' D (in_room room (node_in (cond v third_types builtin_types) (cond v n (older n)))))
+      AreAlike path (tree_of_node h C (node_in_room room (node_in builtin_types (older_number n))))
+      (tree_of_node h' D (node_in_room room (node_in (cond v version_3_types builtin_types)
+      (cond v n (older_number n)))))
   named_alike true n least less =
       let k = n - first_named in
       let at : first_named + k ≡ n = omega (arith, least) in
       let m = named_node k (omega (arith, least, less)) in
-      marks_alike (node_in builtin_types (older n)) (node_in third_types n) m.0
+      marks_alike (node_in builtin_types (older_number n)) (node_in version_3_types n) m.0
       (ap (node_in builtin_types) (older_named n least less) ∙ ulong_node)
-      (ap (node_in third_types) (sym at) ∙ m.1, m.2)
+      (ap (node_in version_3_types) (sym at) ∙ m.1, m.2)
   named_alike false n least less =
       rw (older_named n least less, ulong_node) (inl refl)
 
 -- ---- trees
 
-module _ (version : ℕ) (h h' : Room) (room : ℕ) (C D : ℕ → Ty)
-    (each : (n : ℕ) → n < count → (path : List PathSegment) → IsElsewhere n path →
-    AreAlike path (C (older n)) (D (number_in version n))) where
-  nodes_alike : (n : ℕ) → n < count → (path : List PathSegment) → IsElsewhere n path →
-      AreAlike path (grow h C (in_room room (node_in builtin_types (older n))))
-      (grow h' D (in_room room (node_in (first_types version) (number_in version n))))
+module _ (version : ℕ) (h h' : PartLimits) (room : ℕ) (C D : ℕ → Ty)
+    (each : (n : ℕ) → n < type_count → (path : List PathSegment) → IsElsewhere n path →
+    AreAlike path (C (older_number n)) (D (number_in_version version n))) where
+  nodes_alike : (n : ℕ) → n < type_count → (path : List PathSegment) → IsElsewhere n path →
+      AreAlike path (tree_of_node h C (node_in_room room (node_in builtin_types (older_number n))))
+      (tree_of_node h' D (node_in_room room (node_in (first_types version)
+      (number_in_version version n))))
   nodes_alike n below path elsewhere = go (cases_lt n first_named) (cases_lt n first_later)
     where
       unnamed : IsUnnamed n → AreAlike path
-          (grow h C (in_room room (node_in builtin_types (older n))))
-          (grow h' D (in_room room (node_in (first_types version) (number_in version n))))
+          (tree_of_node h C (node_in_room room (node_in builtin_types (older_number n))))
+          (tree_of_node h' D (node_in_room room (node_in (first_types version)
+          (number_in_version version n))))
       unnamed is = rw (sym (older_node n below is), sym (version_node version n below is))
-          (grown_alike older (number_in version) C D each h h' room path (node_in third_types n)
-          (third_fit n below))
+          (grown_alike older_number (number_in_version version) C D each h h' room path
+          (node_in version_3_types n) (third_fit n below))
 
       go : (n < first_named) ⊎ (first_named ≤ n) → (n < first_later) ⊎ (first_later ≤ n) →
-          AreAlike path (grow h C (in_room room (node_in builtin_types (older n))))
-          (grow h' D (in_room room (node_in (first_types version) (number_in version n))))
+          AreAlike path (tree_of_node h C (node_in_room room
+          (node_in builtin_types (older_number n))))
+          (tree_of_node h' D (node_in_room room (node_in (first_types version)
+          (number_in_version version n))))
       go (inl less) after = unnamed (inl less)
       go (inr least) (inr later) = unnamed (inr later)
       go (inr least) (inl less) = named_alike h h' C D room path
           (elsewhere (rw (le-leb first_named n least, lt-ltb n first_later less) refl))
           (version == 3) n least less
 
-trees_alike : (version room n : ℕ) → n < count → (path : List PathSegment) →
-    IsElsewhere n path → AreAlike path (tree_at (first_table 1) room (older n))
-    (tree_at (first_table version) room (number_in version n))
+trees_alike : (version room n : ℕ) → n < type_count → (path : List PathSegment) →
+    IsElsewhere n path → AreAlike path (tree_at (first_table 1) room (older_number n))
+    (tree_at (first_table version) room (number_in_version version n))
 unfolding tree_at
-trees_alike version zero = nodes_alike version (room_of (first_table 1) 0)
-    (room_of (first_table version) 0) 0 (λ k. octet_type) (λ k. octet_type)
+trees_alike version zero = nodes_alike version (limits_in_room (first_table 1) 0)
+    (limits_in_room (first_table version) 0) 0 (λ k. octet_type) (λ k. octet_type)
     (λ n below path elsewhere. inl refl)
-trees_alike version (suc room) = nodes_alike version (room_of (first_table 1) room)
-    (room_of (first_table version) room) room (tree_at (first_table 1) room)
+trees_alike version (suc room) = nodes_alike version (limits_in_room (first_table 1) room)
+    (limits_in_room (first_table version) room) room (tree_at (first_table 1) room)
     (tree_at (first_table version) room) (trees_alike version room)
 
 -- ---- headers and bodies
 
-abbrev pub AreAlikeFound : Option Ty → Option Ty → Type 0
+abbrev pub AreAlikeFound : (A B : Option Ty) → Type 0
 AreAlikeFound None None = Unit {0}
 AreAlikeFound (Some A) (Some B) = AreAlike [] A B
 AreAlikeFound A B = ⊥
 
 cell_alike : (version : ℕ) (cell : Option ℕ) →
-    IfSome (option_map (number_in 3) cell) (λ n. n < count) →
-    AreAlikeFound (option_map (tree (first_table 1)) (option_map (number_in 1) cell))
-    (option_map (tree (first_table version)) (option_map (number_in version) cell))
+    IfSome (option_map (number_in_version 3) cell) (λ n. n < type_count) →
+    AreAlikeFound (option_map (tree (first_table 1)) (option_map (number_in_version 1) cell))
+    (option_map (tree (first_table version)) (option_map (number_in_version version) cell))
 cell_alike version None below = tt
 cell_alike version (Some n) below = trees_alike version 24 n below [] (λ named. refl)
 
 pub headers_alike : (version minor kind : ℕ) →
     AreAlikeFound (header_type 1 minor kind) (header_type version minor kind)
 headers_alike version minor kind =
-    cell_alike version (cell_in (slice_get header_rows kind) minor) (header_built_in 3 minor kind)
+    cell_alike version (cell_of_minor (slice_get header_rows kind) minor)
+    (header_built_in 3 minor kind)
 
-fixed_below : (fixed : Fixed) → third_fixed fixed < count
+fixed_below : (fixed : Fixed) → fixed_type_in_version_3 fixed < type_count
 fixed_below fixeds.ExceptionId = lit< tt
 fixed_below fixeds.SystemException = lit< tt
 fixed_below fixeds.Forward = lit< tt
@@ -442,7 +456,7 @@ fixed_below fixeds.Addressing = lit< tt
 pub fixed_alike : (version : ℕ) (fixed : Fixed) →
     AreAlike [] (fixed_type 1 fixed) (fixed_type version fixed)
 fixed_alike version fixed =
-    trees_alike version 24 (third_fixed fixed) (fixed_below fixed) [] (λ named. refl)
+    trees_alike version 24 (fixed_type_in_version_3 fixed) (fixed_below fixed) [] (λ named. refl)
 
 -- if P holds of a header type of version 1, and P passes from each type to those that are alike, P
 -- holds of the header type of another version

@@ -12,91 +12,97 @@ use Rattle.giop_decode.specs.declared.progress.ValueFault.{ValueFault}
 use Rattle.giop_decode.specs.ReadResult.{PathSegment, Value as Valued, ValueAt, Read, Done, Short, Fault}
 use Rattle.giop_decode.specs.Reading.{reading}
 use Rattle.giop_decode.specs.ReadingSteps as decoder
-use Rattle.giop_decode.specs.ReadingSteps.{IsEmptyResult, OneAt, IsOctetResult, root_step}
-use Rattle.giop_decode.specs.Noted.{Noted, nothing_noted, note, ends_operation, is_header_root}
+use Rattle.giop_decode.specs.ReadingSteps.{IsEmptyResult, AtMostOneAt, IsOctetResult, root_step}
+use Rattle.giop_decode.specs.Noted.{Noted, nothing_noted, note_line, ends_operation, is_header_root}
 use Rattle.giop_decode.proofs.ReadingLaws.{length_one_more, each_append, root_now, reading_quiet}
 use Rattle.giop_message.specs.Phases.{Phase}
 use Rattle.giop_message.specs.declared.part.Section.{Section}
 use Rattle.giop_message.specs.declared.part.Section.TheVariants as sections
-use Rattle.giop_message.specs.MessageReader.{LineClass, TimedLine, AreInLineOrder, IsOrdered, IsCausal}
+use Rattle.giop_message.specs.MessageReader.{LineClass, TimedLine, AreInLineOrder, GivesLinesInOrder, KeepsEarlierLines}
 use Rattle.giop_message.specs.Signatures.{Signatures}
-use Rattle.giop_message.specs.Messages.{coding_of, Calling, Said, only_lines, nothing_said, ValueLine, CallLine, RestLine, FaultLine, LineAt, line_at, call_of, calls, section_lines, BodyType, Stage, In_typed, In_padding, In_rest, Over, MessageReading, ReadTo, with_front, section_then, rest_in, rest, body, padded, message, message_lines, root_of, calling, after, section_and_rest}
-use Rattle.giop_message.specs.StageSteps.{rest_step, message_step, advance}
-use Rattle.giop_message.specs.ReaderOfTable.{line_class_of, timed_line_of, remarks_by, reader_by}
-use Rattle.giop_message.proofs.LastParts.{CallsNone, root_none}
+use Rattle.giop_message.specs.Messages.{coding_of, CallSource, Said, only_lines, nothing_said, ValueLine, CallLine, RestLine, FaultLine, LineAt, line_at, call_line_if_named, call_lines_after, section_lines, BodyType, Stage, In_typed, In_padding, In_rest, Over, MessageReading, ReadTo, with_front, section_then, read_rest_in_parts, read_rest, read_body, read_padding_and_body, read_message, message_lines, root_of, section_call_source, read_after_section, section_and_rest}
+use Rattle.giop_message.specs.StageSteps.{rest_step, message_step, read_one_more}
+use Rattle.giop_message.specs.ReaderOfTable.{line_class_of, timed_line_of, timed_lines_by, reader_by}
+use Rattle.giop_message.proofs.LastParts.{NoCallIfFaulted, root_none}
 use Rattle.giop_message.proofs.StepLines.{one_faulted}
 use Rattle.giop_message.proofs.Going.{front_none, body_has, after_has, message_has, message_goes}
 
-abbrev pub ToldAt : ℕ → List LineAt → Type 0
-ToldAt n emitted = Each (λ t. t.at ≡ n) emitted
+abbrev pub AreLinesAt : (n : ℕ) (emitted : List LineAt) → Type 0
+AreLinesAt n emitted = Each (λ t. t.at ≡ n) emitted
 
 -- a message that was read from no octets has no line
-abbrev pub Silent : ℕ → MessageReading → Type 0
-Silent n (ReadTo said at stage) = (said.lines ≡ []) × (at ≡ n)
+abbrev pub HasNoLinesAt : (n : ℕ) (reading : MessageReading) → Type 0
+HasNoLinesAt n (ReadTo said at stage) = (said.lines ≡ []) × (at ≡ n)
 
 -- the lines of one octet, in their order
-abbrev pub Turn : ℕ → List LineAt → Type 0
-Turn n emitted = ToldAt n emitted × AreInLineOrder (map (λ t. line_class_of t.message_line) emitted)
+abbrev pub AreOrderedLinesAt : (n : ℕ) (emitted : List LineAt) → Type 0
+AreOrderedLinesAt n emitted = AreLinesAt n emitted × AreInLineOrder (map
+    (λ t. line_class_of t.message_line) emitted)
 
 -- a message after one octet: its lines are those of the octet, and it is at this offset unless it
 -- is over
-abbrev pub Prompt : ℕ → MessageReading → Type 0
-Prompt n (ReadTo said at stage) = Turn n said.lines × ((at ≡ n) ⊎ (stage ≡ Over))
+abbrev pub IsAfterOneOctet : (n : ℕ) (reading : MessageReading) → Type 0
+IsAfterOneOctet n (ReadTo said at stage) = AreOrderedLinesAt n said.lines × ((at ≡ n) ⊎
+    (stage ≡ Over))
 
-silent_prompt : (n : ℕ) (m : MessageReading) → Silent n m → Prompt n m
+silent_prompt : (n : ℕ) (m : MessageReading) → HasNoLinesAt n m → IsAfterOneOctet n m
 silent_prompt n (ReadTo said at stage) h = search (arith)
 
-prompt_front : (n : ℕ) (front : Said) (m : MessageReading) → Turn n front.lines → Silent n m →
-    Prompt n (with_front front m)
+prompt_front : (n : ℕ) (front : Said) (m : MessageReading) → AreOrderedLinesAt n front.lines →
+    HasNoLinesAt n m →
+    IsAfterOneOctet n (with_front front m)
 unfolding with_front
 prompt_front n front (ReadTo said at stage) h k = search (arith, append-nil)
 
 -- there is one call line, or none
-abbrev pub MayCall : ℕ → List LineAt → Type 0
-MayCall n emitted = (emitted ≡ []) ⊎ ((id : ℕ) × (operation : List ℕ)
+abbrev pub IsAtMostOneCall : (n : ℕ) (emitted : List LineAt) → Type 0
+IsAtMostOneCall n emitted = (emitted ≡ []) ⊎ ((id : ℕ) × (operation : List ℕ)
     × (interface : Option (List ℕ))
     × (emitted ≡ line_at n (CallLine id operation interface) ∷ []))
 
 call_is : (n : ℕ) (id : Option ℕ) (name interface : Option (List ℕ)) →
-    MayCall n (call_of n id name interface)
-unfolding call_of
+    IsAtMostOneCall n (call_line_if_named n id name interface)
+unfolding call_line_if_named
 call_is n None name interface = inl refl
 call_is n (Some id) None interface = inl refl
 call_is n (Some id) (Some name) interface = search (arith)
 
-call_by : (n : ℕ) (test : Bool) (ts : List LineAt) → MayCall n ts →
-    MayCall n (if test then ts else [])
+call_by : (n : ℕ) (test : Bool) (ts : List LineAt) → IsAtMostOneCall n ts →
+    IsAtMostOneCall n (if test then ts else [])
 call_by n true ts h = h
 call_by n false ts h = inl refl
 
-pub calls_is : (is : Calling) (l : ValueAt) (h : Noted) → MayCall l.at (calls is l h)
-unfolding calls
+pub calls_is : (is : CallSource) (l : ValueAt) (h : Noted) →
+    IsAtMostOneCall l.at (call_lines_after is l h)
+unfolding call_lines_after
 calls_is is l h = search (arith, call_by, call_is)
 
 value_turn : (n : ℕ) (root : Root) (path : List PathSegment) (v : Valued) (more : List LineAt) →
-    MayCall n more → Turn n ((line_at n (ValueLine root path v) ∷ more) ++ [])
+    IsAtMostOneCall n more → AreOrderedLinesAt n ((line_at n (ValueLine root path v) ∷ more) ++ [])
 unfolding line_at line_class_of
 value_turn n root path v more (inl e) = search (arith)
 value_turn n root path v more (inr f) = search (arith)
 
-section_lines_turn : (root : Root) (is : Calling) (n : ℕ) (h : Noted) (lines : List ValueAt) →
-    OneAt n lines →
-    Turn n (section_lines root is h lines)
+section_lines_turn : (root : Root) (is : CallSource) (n : ℕ) (h : Noted) (lines : List ValueAt) →
+    AtMostOneAt n lines →
+    AreOrderedLinesAt n (section_lines root is h lines)
 unfolding section_lines
 section_lines_turn root is n h [] e = (tt, inl refl)
 section_lines_turn root is n h (l ∷ []) e =
-    let now = note (is_header_root root) h l in
-    subst (λ m. Turn m ((line_at l.at (ValueLine root l.path l.value) ∷ calls is l now) ++ [])) e
-    (value_turn l.at root l.path l.value (calls is l now) (calls_is is l now))
+    let now = note_line (is_header_root root) h l in
+    subst (λ m. AreOrderedLinesAt m ((line_at l.at (ValueLine root l.path l.value)
+    ∷ call_lines_after is l now)
+    ++ [])) e
+    (value_turn l.at root l.path l.value (call_lines_after is l now) (calls_is is l now))
 section_lines_turn root is n h (l ∷ l' ∷ ls) e = absurd e
 
-module _ (section : Section) (is : Calling) (next : Noted → ℕ → List ℕ → MessageReading) (n : ℕ)
-    (silent : (k : Noted) → Silent n (next k n [])) where
+module _ (section : Section) (is : CallSource) (next : Noted → ℕ → List ℕ → MessageReading) (n : ℕ)
+    (silent : (k : Noted) → HasNoLinesAt n (next k n [])) where
   abbrev R : Root
   R = root_of section
 
   pub passes_silent : (k : Noted) (r : Read) → IsEmptyResult n r →
-      Silent n (section_then section is next k r)
+      HasNoLinesAt n (section_then section is next k r)
   unfolding section_then section_lines with_front
   passes_silent k (Done lines at s) h = search (arith, front_none)
   passes_silent k (Short lines at outer leaf) h = rw (h.0, h.1) (refl, refl)
@@ -104,56 +110,57 @@ module _ (section : Section) (is : Calling) (next : Noted → ℕ → List ℕ �
 
   -- a fault, and the value that its octet completes
   faulted_turn : (k : Noted) (lines : List ValueAt) (at : ℕ) (why : ValueFault) → at ≡ n →
-      OneAt n lines →
+      AtMostOneAt n lines →
       Each (λ l. ends_operation is.is_request l ≡ false) lines →
-      Turn n (section_lines R is k lines ++ line_at at (FaultLine why) ∷ [])
-  unfolding line_at section_lines calls line_class_of
+      AreOrderedLinesAt n (section_lines R is k lines ++ line_at at (FaultLine why) ∷ [])
+  unfolding line_at section_lines call_lines_after line_class_of
   faulted_turn k [] at why e one none = search (arith)
   faulted_turn k (l ∷ []) at why e one none = search (arith)
   faulted_turn k (l ∷ l' ∷ ls) at why e one none = absurd one
 
-  passes_prompt : (k : Noted) (r : Read) → IsOctetResult n r → CallsNone is.is_request r →
-      Prompt n (section_then section is next k r)
+  passes_prompt : (k : Noted) (r : Read) → IsOctetResult n r → NoCallIfFaulted is.is_request r →
+      IsAfterOneOctet n (section_then section is next k r)
   unfolding section_then line_at section_lines line_class_of
   passes_prompt k (Done lines at s) h none = search (arith, prompt_front, section_lines_turn)
   passes_prompt k (Short lines at outer leaf) h none = search (arith, section_lines_turn)
   passes_prompt k (Fault lines at why T) h none = search (arith, faulted_turn, one_faulted)
 
-pub rest_silent : (n : ℕ) → Silent n (rest n [])
-unfolding rest rest_in
+pub rest_silent : (n : ℕ) → HasNoLinesAt n (read_rest n [])
+unfolding read_rest read_rest_in_parts
 rest_silent n = (refl, add-zero n)
 
 -- a reader gives no line if there are no octets
-abbrev IsSilent : (ℕ → List ℕ → MessageReading) → Type 0
-IsSilent reader = (n : ℕ) → Silent n (reader n [])
+abbrev IsSilentWithoutOctets : (reader : ℕ → List ℕ → MessageReading) → Type 0
+IsSilentWithoutOctets reader = (n : ℕ) → HasNoLinesAt n (reader n [])
 
 module _ (S : Signatures) (header : List ℕ) where
   reads_silent : (section : Section) (T : Ty) →
-      ((h : Noted) → IsSilent (after S header section h)) →
-      IsSilent (λ at s. section_and_rest S header section nothing_noted
+      ((h : Noted) → IsSilentWithoutOctets (read_after_section S header section h)) →
+      IsSilentWithoutOctets (λ at s. section_and_rest S header section nothing_noted
       (reading (coding_of S header) [] T at s))
   reads_silent section T silent n = search (arith, passes_silent, reading_quiet)
 
-  padded_silent : (t : BodyType) → IsSilent (body S header t) → IsSilent (padded S header t)
-  unfolding padded
+  padded_silent : (t : BodyType) → IsSilentWithoutOctets (read_body S header t) →
+      IsSilentWithoutOctets (read_padding_and_body S header t)
+  unfolding read_padding_and_body
   padded_silent t silent n = search (arith, cases_lt, drop, lt-ltb, add-zero)
 
-  pub body_silent : (t : BodyType) (n : ℕ) → Silent n (body S header t n [])
-  body_silent t = body_has S header IsSilent rest_silent
+  pub body_silent : (t : BodyType) (n : ℕ) → HasNoLinesAt n (read_body S header t n [])
+  body_silent t = body_has S header IsSilentWithoutOctets rest_silent
       (λ section T past. reads_silent section T) padded_silent t
 
   pub after_silent : (section : Section) (k : Noted) (n : ℕ) →
-      Silent n (after S header section k n [])
-  after_silent section k = after_has S header IsSilent rest_silent
+      HasNoLinesAt n (read_after_section S header section k n [])
+  after_silent section k = after_has S header IsSilentWithoutOctets rest_silent
       (λ section T past. reads_silent section T) padded_silent section k
 
-  pub message_silent : Silent 12 (message S header [])
-  unfolding message
-  message_silent = message_has S header IsSilent rest_silent
+  pub message_silent : HasNoLinesAt 12 (read_message S header [])
+  unfolding read_message
+  message_silent = message_has S header IsSilentWithoutOctets rest_silent
       (λ section T past. reads_silent section T) padded_silent (reads_silent sections.Header) 12
 
 rest_by : (offset : ℕ) (held : List ℕ) (n : ℕ) (test : Bool) →
-    Prompt n (if test then ReadTo (only_lines (line_at n (RestLine offset held) ∷ [])) n
+    IsAfterOneOctet n (if test then ReadTo (only_lines (line_at n (RestLine offset held) ∷ [])) n
     (In_rest (offset + 32) [])
     else ReadTo nothing_said n (In_rest offset held))
 unfolding line_at line_class_of
@@ -161,30 +168,34 @@ rest_by offset held n true = search (arith)
 rest_by offset held n false = ((tt, inl refl), inl refl)
 
 pub step_prompt : (S : Signatures) (header : List ℕ) (at : ℕ) (stage : Stage) (b : ℕ) →
-    Prompt (at + 1) (message_step S header at stage b)
+    IsAfterOneOctet (at + 1) (message_step S header at stage b)
 unfolding message_step rest_step
 step_prompt S header at (In_typed section k outer leaf) b =
-    passes_prompt section (calling S header section) (after S header section) (at + 1)
+    passes_prompt section (section_call_source S header section)
+    (read_after_section S header section) (at + 1)
     (λ k. after_silent S header section k (at + 1)) k
     (decoder.root_step (coding_of S header) [] outer leaf at b)
     (root_now (coding_of S header) [] outer leaf at b)
-    (root_none (calling S header section).is_request (coding_of S header) [] outer leaf at b)
+    (root_none (section_call_source S header section).is_request
+    (coding_of S header) [] outer leaf at b)
 step_prompt S header at (In_padding t) b = go (nat_lt 1 (padding at 8))
   where
-    go : (test : Bool) → Prompt (at + 1)
-        (if test then ReadTo nothing_said (at + 1) (In_padding t) else body S header t (at + 1) [])
+    go : (test : Bool) → IsAfterOneOctet (at + 1)
+        (if test then ReadTo nothing_said (at + 1) (In_padding t) else read_body S header t
+        (at + 1) [])
     go true = ((tt, inl refl), inl refl)
     go false = search (arith, silent_prompt, body_silent)
 step_prompt S header at (In_rest offset held) b = search (arith, rest_by)
 step_prompt S header at Over b = ((tt, inl refl), inr refl)
 
 -- a message after n octets is at the offset n, unless it is over
-abbrev pub Stands : ℕ → MessageReading → Type 0
-Stands n (ReadTo said at stage) = (at ≡ n) ⊎ (stage ≡ Over)
+abbrev pub IsAtOffsetOrOver : (n : ℕ) (reading : MessageReading) → Type 0
+IsAtOffsetOrOver n (ReadTo said at stage) = (at ≡ n) ⊎ (stage ≡ Over)
 
-stands_more : (S : Signatures) (header : List ℕ) (n : ℕ) (m : MessageReading) (b : ℕ) → Stands n m →
-    Stands (n + 1) (advance S header m b)
-unfolding advance with_front message_step
+stands_more : (S : Signatures) (header : List ℕ) (n : ℕ) (m : MessageReading) (b : ℕ) →
+    IsAtOffsetOrOver n m →
+    IsAtOffsetOrOver (n + 1) (read_one_more S header m b)
+unfolding read_one_more with_front message_step
 stands_more S header n (ReadTo said at stage) b (inl h) = search (arith, step_prompt)
 stands_more S header n (ReadTo said at stage) b (inr h) = rw h (inr refl)
 
@@ -199,54 +210,59 @@ grown P more_of done (x ∷ xs) h = search (
       (more_of done x h),
 )
 
-pub stands : (S : Signatures) (header xs : List ℕ) → Stands (12 + length xs) (message S header xs)
-stands S header xs = grown (λ xs. Stands (12 + length xs) (message S header xs)) more [] xs
-    (none (message S header []) (message_silent S header))
+pub stands : (S : Signatures) (header xs : List ℕ) → IsAtOffsetOrOver (12 + length xs)
+    (read_message S header xs)
+stands S header xs = grown (λ xs. IsAtOffsetOrOver (12 + length xs)
+    (read_message S header xs)) more [] xs
+    (none (read_message S header []) (message_silent S header))
   where
-    none : (m : MessageReading) → Silent 12 m → Stands 12 m
+    none : (m : MessageReading) → HasNoLinesAt 12 m → IsAtOffsetOrOver 12 m
     none (ReadTo said at stage) h = inl h.1
 
-    more : (xs : List ℕ) (b : ℕ) → Stands (12 + length xs) (message S header xs) →
-        Stands (12 + length (xs ++ b ∷ [])) (message S header (xs ++ b ∷ []))
+    more : (xs : List ℕ) (b : ℕ) → IsAtOffsetOrOver (12 + length xs) (read_message S header xs) →
+        IsAtOffsetOrOver (12 + length (xs ++ b ∷ [])) (read_message S header (xs ++ b ∷ []))
     more xs b h = search (arith, message_goes, length_one_more, add_assoc, stands_more)
 
 -- the lines come after the first n octets
-abbrev pub Behind : ℕ → List LineAt → Type 0
-Behind n emitted = Each (λ t. n < t.at) emitted
+abbrev pub AreAllAfter : (n : ℕ) (emitted : List LineAt) → Type 0
+AreAllAfter n emitted = Each (λ t. n < t.at) emitted
 
-behind_at : (n : ℕ) (emitted : List LineAt) → ToldAt (n + 1) emitted → Behind n emitted
+behind_at : (n : ℕ) (emitted : List LineAt) → AreLinesAt (n + 1) emitted → AreAllAfter n emitted
 behind_at n [] h = tt
 behind_at n (t ∷ ts) h = search (arith, behind_at n ts h.1)
 
-behind_less : (n m : ℕ) (emitted : List LineAt) → n ≤ m → Behind m emitted → Behind n emitted
+behind_less : (n m : ℕ) (emitted : List LineAt) → n ≤ m → AreAllAfter m emitted →
+    AreAllAfter n emitted
 behind_less n m [] h k = tt
 behind_less n m (t ∷ ts) h k = search (arith, behind_less n m ts h k.1)
 
 pub one_more : (S : Signatures) (header : List ℕ) (n : ℕ) (m : MessageReading) (b : ℕ) →
-    Stands n m →
-    (more : List LineAt) × (message_lines (advance S header m b) ≡ message_lines m ++ more)
-    × Turn (n + 1) more
-unfolding advance with_front message_step message_lines
+    IsAtOffsetOrOver n m →
+    (more : List LineAt) × (message_lines (read_one_more S header m b) ≡ message_lines m ++ more)
+    × AreOrderedLinesAt (n + 1) more
+unfolding read_one_more with_front message_step message_lines
 one_more S header n (ReadTo said at stage) b (inl h) =
     go (message_step S header at stage b) (step_prompt S header at stage b)
   where
-    go : (m : MessageReading) → Prompt (at + 1) m →
+    go : (m : MessageReading) → IsAfterOneOctet (at + 1) m →
         (more : List LineAt) × (message_lines (with_front said m) ≡ said.lines ++ more)
-        × Turn (n + 1) more
+        × AreOrderedLinesAt (n + 1) more
     go (ReadTo more at' stage') k = (more.lines, refl, rw (← h) k.0)
 one_more S header n (ReadTo said at stage) b (inr h) = search (arith)
 
 pub told_begins : (S : Signatures) (header xs more : List ℕ) → (later : List LineAt)
-    × (message_lines (message S header (xs ++ more)) ≡ message_lines (message S header xs) ++ later)
-    × Behind (12 + length xs) later
+    × (message_lines (read_message S header (xs ++ more)) ≡ message_lines (read_message S header xs)
+    ++ later)
+    × AreAllAfter (12 + length xs) later
 told_begins S header xs [] = search (arith, append-nil)
 told_begins S header xs (b ∷ more) =
-    let one = one_more S header (12 + length xs) (message S header xs) b (stands S header xs) in
+    let one = one_more S header (12 + length xs) (read_message S header xs) b
+    (stands S header xs) in
     let all = told_begins S header (xs ++ b ∷ []) more in (
       one.0 ++ all.0,
-      ap (λ s. message_lines (message S header s)) (sym (append_assoc xs (b ∷ []) more))
+      ap (λ s. message_lines (read_message S header s)) (sym (append_assoc xs (b ∷ []) more))
           ∙ (all.1 ∙ (ap (λ ts. ts ++ all.0) (ap message_lines (message_goes S header xs b) ∙ one.1)
-          ∙ append_assoc (message_lines (message S header xs)) one.0 all.0)),
+          ∙ append_assoc (message_lines (read_message S header xs)) one.0 all.0)),
       each_append (λ t. 12 + length xs < t.at) one.0 all.0
           (behind_at (12 + length xs) one.0 one.2.0)
           (behind_less (12 + length xs) (12 + length (xs ++ b ∷ [])) all.0
@@ -257,29 +273,30 @@ pub map_both : {A B : Type 0} (f : A → B) (xs ys : List A) → map f (xs ++ ys
 map_both f [] ys = refl
 map_both {A} {B} f (x ∷ xs) ys = ap (λ (zs : List B). f x ∷ zs) (map_both f xs ys)
 
-later_none : (n k : ℕ) (emitted : List LineAt) → Behind (12 + n) emitted → k ≤ n →
+later_none : (n k : ℕ) (emitted : List LineAt) → AreAllAfter (12 + n) emitted → k ≤ n →
     filter (λ r. r.at == k) (map timed_line_of emitted) ≡ []
 later_none n k [] h below = refl
 later_none n k (t ∷ ts) h below = search (arith, ne_eqb, later_none n k ts h.1 below)
 
 -- More octets don't change the lines of the octets before them.
-pub is_causal : (S : Phase → ℕ → Signatures) → IsCausal (reader_by S)
-unfolding remarks_by
+pub is_causal : (S : Phase → ℕ → Signatures) → KeepsEarlierLines (reader_by S)
+unfolding timed_lines_by
 is_causal S = record {
   earlier = λ phase number header xs more k below.
       let all = told_begins (S phase number) header xs more in
       let at_k : TimedLine → Bool = λ r. r.at == k in
       ap (λ ts. filter at_k (map timed_line_of ts)) all.1
       ∙ (ap (filter at_k) (map_both timed_line_of
-      (message_lines (message (S phase number) header xs))
+      (message_lines (read_message (S phase number) header xs))
       all.0)
-      ∙ (filter-append at_k (map timed_line_of (message_lines (message (S phase number) header xs)))
+      ∙ (filter-append at_k (map timed_line_of (message_lines (read_message
+      (S phase number) header xs)))
       (map timed_line_of all.0)
       ∙ (ap (λ ls. filter at_k (map timed_line_of
-      (message_lines (message (S phase number) header xs)))
+      (message_lines (read_message (S phase number) header xs)))
       ++ ls) (later_none (length xs) k all.0 all.2 below)
       ∙ append-nil (filter at_k (map timed_line_of
-      (message_lines (message (S phase number) header xs)))))));
+      (message_lines (read_message (S phase number) header xs)))))));
 }
 
 -- ---- the lines of one octet
@@ -288,19 +305,19 @@ module _ (k : ℕ) where
   abbrev At_k : TimedLine → Bool
   At_k r = r.at == k
 
-  abbrev LineClasses : List LineAt → List LineClass
+  abbrev LineClasses : (ts : List LineAt) → List LineClass
   LineClasses ts = map (λ r. r.line_class) (filter At_k (map timed_line_of ts))
 
   line_classes_append : (xs ys : List LineAt) → LineClasses (xs ++ ys) ≡ LineClasses xs
       ++ LineClasses ys
   line_classes_append xs ys = search (arith, map, map_both, filter-append)
 
-  line_classes_here : (n : ℕ) (ts : List LineAt) → ToldAt n ts → n - 12 ≡ k →
+  line_classes_here : (n : ℕ) (ts : List LineAt) → AreLinesAt n ts → n - 12 ≡ k →
       LineClasses ts ≡ map (λ t. line_class_of t.message_line) ts
   line_classes_here n [] h e = refl
   line_classes_here n (t ∷ ts) h e = search (arith, eq-eqb, line_classes_here n ts h.1 e)
 
-  line_classes_elsewhere : (n : ℕ) (ts : List LineAt) → ToldAt n ts → n - 12 ≢ k →
+  line_classes_elsewhere : (n : ℕ) (ts : List LineAt) → AreLinesAt n ts → n - 12 ≢ k →
       LineClasses ts ≡ []
   line_classes_elsewhere n [] h e = refl
   line_classes_elsewhere n (t ∷ ts) h e = search (arith, ne_eqb, line_classes_elsewhere n ts h.1 e)
@@ -314,13 +331,13 @@ module _ (k : ℕ) where
   up_to n m [] h j = tt
   up_to n m (t ∷ ts) h j = search (arith, up_to n m ts h j.1)
 
-  here_up_to : (n : ℕ) (ts : List LineAt) → ToldAt n ts → Each (λ t. t.at ≤ n) ts
+  here_up_to : (n : ℕ) (ts : List LineAt) → AreLinesAt n ts → Each (λ t. t.at ≤ n) ts
   here_up_to n [] h = tt
   here_up_to n (t ∷ ts) h = search (arith, here_up_to n ts h.1)
 
   turn_of : (n : ℕ) (old more : List LineAt) → Each (λ t. t.at ≤ 12 + n) old →
       AreInLineOrder (LineClasses old) →
-      Turn ((12 + n) + 1) more → AreInLineOrder (LineClasses (old ++ more))
+      AreOrderedLinesAt ((12 + n) + 1) more → AreInLineOrder (LineClasses (old ++ more))
   turn_of n old more bound old_turn turn = same (cases_lt (n + 1) k) (cases_lt k (n + 1))
     where
       go : (n + 1 ≡ k) ⊎ (n + 1 ≢ k) → AreInLineOrder (LineClasses (old ++ more))
@@ -338,20 +355,21 @@ module _ (k : ℕ) where
       same (inr h) (inr j) = go (inl (omega arith))
 
   module _ (S : Signatures) (header : List ℕ) where
-    abbrev Ordered : List ℕ → Type 0
-    Ordered xs = Each (λ t. t.at ≤ 12 + length xs) (message_lines (message S header xs))
-        × AreInLineOrder (LineClasses (message_lines (message S header xs)))
+    abbrev Ordered : (octets : List ℕ) → Type 0
+    Ordered xs = Each (λ t. t.at ≤ 12 + length xs) (message_lines (read_message S header xs))
+        × AreInLineOrder (LineClasses (message_lines (read_message S header xs)))
 
-    ordered_none : (m : MessageReading) → Silent 12 m →
+    ordered_none : (m : MessageReading) → HasNoLinesAt 12 m →
         Each (λ t. t.at ≤ 12) (message_lines m) × AreInLineOrder (LineClasses (message_lines m))
     unfolding message_lines
     ordered_none (ReadTo said at stage) h = rw h.0 (tt, inl refl)
 
     ordered_more : (xs : List ℕ) (b : ℕ) → Ordered xs → Ordered (xs ++ b ∷ [])
     ordered_more xs b h =
-        let one = one_more S header (12 + length xs) (message S header xs) b (stands S header xs) in
-        let old = message_lines (message S header xs) in
-        let e : message_lines (message S header (xs ++ b ∷ [])) ≡ old ++ one.0 =
+        let one = one_more S header (12 + length xs) (read_message S header xs) b
+        (stands S header xs) in
+        let old = message_lines (read_message S header xs) in
+        let e : message_lines (read_message S header (xs ++ b ∷ [])) ≡ old ++ one.0 =
         ap message_lines (message_goes S header xs b) ∙ one.1 in
         rw (e, length_one_more xs b, ← add_assoc) (
           each_append (λ t. t.at ≤ (12 + length xs) + 1) old one.0
@@ -362,11 +380,11 @@ module _ (k : ℕ) where
 
     pub ordered : (xs : List ℕ) → Ordered xs
     ordered xs = grown Ordered ordered_more [] xs
-        (ordered_none (message S header []) (message_silent S header))
+        (ordered_none (read_message S header []) (message_silent S header))
 
 -- The lines of one octet come in their order, and no two have the same class.
-pub is_ordered : (S : Phase → ℕ → Signatures) → IsOrdered (reader_by S)
-unfolding remarks_by
+pub is_ordered : (S : Phase → ℕ → Signatures) → GivesLinesInOrder (reader_by S)
+unfolding timed_lines_by
 is_ordered S = record {
   ordered = λ phase number header xs k.
       (ordered k (S phase number) header xs).1;

@@ -4,96 +4,100 @@
 use Rattle.std.proofs.Common.{arith, ◌≡◌, Bool, true, false, List, [], ◌∷◌, ◌++◌, map, inl, inr, refl, ap, ◌≢◌, ℕ, suc, length, ◌⊎◌}
 use Rattle.std.specs.Prelude.{if◌then◌else◌}
 use Rattle.giop_message.specs.Phases.{Phase}
-use Rattle.giop_message.specs.MessageReader.{LineClass, Rest, End, AtClose, IsClosing, Value, Call, Fault, AreInLineOrder, is_fault}
+use Rattle.giop_message.specs.MessageReader.{LineClass, Rest, End, AreCloseClasses, ClosesOnce, Value, Call, Fault, AreInLineOrder, is_fault_class}
 use Rattle.giop_message.specs.Signatures.{Signatures}
-use Rattle.giop_message.specs.Messages.{MessageLine, ShortLine, EndLine, Stage, In_typed, In_padding, In_rest, message, stage_of, close}
-use Rattle.giop_message.specs.ReaderOfTable.{line_class_of, closing_of, closes_by, reader_by}
-use Rattle.giop_message.proofs.Leaving.{octet_leaves, Leaves}
+use Rattle.giop_message.specs.Messages.{MessageLine, ShortLine, EndLine, Stage, In_typed, In_padding, In_rest, read_message, stage_of, lines_of_close}
+use Rattle.giop_message.specs.ReaderOfTable.{line_class_of, class_and_text, lines_of_close_by, reader_by}
+use Rattle.giop_message.proofs.Leaving.{octet_leaves, StageFitsClasses}
 use Rattle.std.specs.List.{list_any}
-use Rattle.giop_message.specs.Apart.{AreApart, IsApart}
+use Rattle.giop_message.specs.Apart.{AreDistinct, HasDistinctClasses}
 use Rattle.giop_message.specs.MessageReader as said
 use Rattle.giop_message.proofs.Causal.{is_ordered}
 
-abbrev LineClasses : List MessageLine → List LineClass
-LineClasses speeches = map (λ l. l.0) (map closing_of speeches)
+abbrev LineClasses : (speeches : List MessageLine) → List LineClass
+LineClasses speeches = map (λ l. l.0) (map class_and_text speeches)
 
-lack_says : (test : Bool) → AtClose (LineClasses (if test then EndLine ∷ [] else ShortLine ∷ []))
+lack_says : (test : Bool) → AreCloseClasses (LineClasses (if test then EndLine ∷ [] else ShortLine
+    ∷ []))
 unfolding line_class_of
 lack_says true = inr (inl refl)
 lack_says false = inl refl
 
-closes_say : (stage : Stage) → AtClose (LineClasses (close stage))
-unfolding line_class_of close
+closes_say : (stage : Stage) → AreCloseClasses (LineClasses (lines_of_close stage))
+unfolding line_class_of lines_of_close
 closes_say (In_typed section h outer leaf) = inl refl
 closes_say (In_padding b) = search (arith, lack_says)
 closes_say (In_rest offset (x ∷ held)) = inr (inr refl)
 closes_say _ = inr (inl refl)
 
 -- if a close has only the line of the end, it has no part of the rest
-ends_only : (stage : Stage) → LineClasses (close stage) ≡ End ∷ [] →
-    LineClasses (close stage) ≡ Rest ∷ End ∷ [] → ⊥
+ends_only : (stage : Stage) → LineClasses (lines_of_close stage) ≡ End ∷ [] →
+    LineClasses (lines_of_close stage) ≡ Rest ∷ End ∷ [] → ⊥
 ends_only stage e f = absurd cc
 
-pub is_closing : (S : Phase → ℕ → Signatures) → IsClosing (reader_by S)
-unfolding closes_by line_class_of close
+pub is_closing : (S : Phase → ℕ → Signatures) → ClosesOnce (reader_by S)
+unfolding lines_of_close_by line_class_of lines_of_close
 is_closing S = search (arith, closes_say, octet_leaves, ends_only)
 
-leaves_end : (line_classes : List LineClass) (stage : Stage) → Leaves line_classes stage →
-    (line_classes ≡ Rest ∷ []) ⊎ (list_any is_fault line_classes ≡ true) →
-    LineClasses (close stage) ≡ End ∷ []
-unfolding close line_class_of
+leaves_end : (line_classes : List LineClass) (stage : Stage) → StageFitsClasses line_classes stage →
+    (line_classes ≡ Rest ∷ []) ⊎ (list_any is_fault_class line_classes ≡ true) →
+    LineClasses (lines_of_close stage) ≡ End ∷ []
+unfolding lines_of_close line_class_of
 leaves_end line_classes stage h (inl e) = search (arith)
 leaves_end line_classes stage h (inr e) = rw (h.1 e) refl
 
-other : (a b : LineClass) → a ≢ b → AreApart (a ∷ b ∷ [])
+other : (a b : LineClass) → a ≢ b → AreDistinct (a ∷ b ∷ [])
 other a b h = ((h, tt), (tt, tt))
 
 -- one line and the lines of a close, if none of these has its class
-one_apart : (a : LineClass) (line_classes : List LineClass) → AtClose line_classes → a ≢ Fault →
+one_apart : (a : LineClass) (line_classes : List LineClass) → AreCloseClasses line_classes →
+    a ≢ Fault →
     a ≢ End →
-    a ≢ Rest → AreApart (a ∷ line_classes)
+    a ≢ Rest → AreDistinct (a ∷ line_classes)
 one_apart a line_classes (inl e) f g h = rw e (other a Fault f)
 one_apart a line_classes (inr (inl e)) f g h = rw e (other a End g)
 one_apart a line_classes (inr (inr e)) f g h = search (arith)
 
-close_apart : (line_classes : List LineClass) → AtClose line_classes → AreApart line_classes
+close_apart : (line_classes : List LineClass) → AreCloseClasses line_classes →
+    AreDistinct line_classes
 close_apart line_classes (inl e) = rw e (tt, tt)
 close_apart line_classes (inr (inl e)) = rw e (tt, tt)
 close_apart line_classes (inr (inr e)) = search (arith)
 
-call_apart : (line_classes : List LineClass) → AtClose line_classes →
-    AreApart (Value ∷ Call ∷ line_classes)
+call_apart : (line_classes : List LineClass) → AreCloseClasses line_classes →
+    AreDistinct (Value ∷ Call ∷ line_classes)
 call_apart line_classes (inl e) = search (arith, other)
 call_apart line_classes (inr (inl e)) = search (arith, other)
 call_apart line_classes (inr (inr e)) = search (arith, one_apart)
 
 turn_apart : (line_classes : List LineClass) (stage : Stage) → AreInLineOrder line_classes →
-    Leaves line_classes stage →
-    AtClose (LineClasses (close stage)) → AreApart (line_classes ++ LineClasses (close stage))
+    StageFitsClasses line_classes stage →
+    AreCloseClasses (LineClasses (lines_of_close stage)) →
+    AreDistinct (line_classes ++ LineClasses (lines_of_close stage))
 turn_apart line_classes stage (inl e) h closed = search (arith, close_apart)
 turn_apart line_classes stage (inr (inl e)) h closed = search (arith, one_apart)
 turn_apart line_classes stage (inr (inr (inl e))) h closed = search (arith, call_apart)
 turn_apart line_classes stage (inr (inr (inr (inl e)))) h closed =
     rw (leaves_end line_classes stage h (inl e), e) (other Rest End (λ k. cc))
 turn_apart line_classes stage (inr (inr (inr (inr (inl e))))) h closed =
-    rw (leaves_end line_classes stage h (inr (ap (list_any is_fault) e)), e)
+    rw (leaves_end line_classes stage h (inr (ap (list_any is_fault_class) e)), e)
     (other Fault End (λ k. cc))
 turn_apart line_classes stage (inr (inr (inr (inr (inr e))))) h closed =
-    rw (leaves_end line_classes stage h (inr (ap (list_any is_fault) e)), e)
+    rw (leaves_end line_classes stage h (inr (ap (list_any is_fault_class) e)), e)
     (((λ k. cc), ((λ k. cc), tt)), other Fault End (λ k. cc))
 
 octet_apart : (S : Phase → ℕ → Signatures) (phase : Phase) (number : ℕ) (header xs : List ℕ)
-    (x : ℕ) → AreApart
-    (map (λ r. r.line_class) (said.due (reader_by S) phase number header xs x)
+    (x : ℕ) → AreDistinct
+    (map (λ r. r.line_class) (said.next_lines (reader_by S) phase number header xs x)
     ++ map (λ l. l.0) ((reader_by S).closes phase number header (xs ++ x ∷ [])))
-unfolding closes_by
+unfolding lines_of_close_by
 octet_apart S phase number header xs x =
-    turn_apart (map (λ r. r.line_class) (said.due (reader_by S) phase number header xs x))
-    (stage_of (message (S phase number) header (xs ++ x ∷ [])))
+    turn_apart (map (λ r. r.line_class) (said.next_lines (reader_by S) phase number header xs x))
+    (stage_of (read_message (S phase number) header (xs ++ x ∷ [])))
     ((is_ordered S).ordered phase number header (xs ++ x ∷ []) (suc (length xs)))
     (octet_leaves (S phase number) header xs x)
     ((is_closing S).closed phase number header (xs ++ x ∷ []))
 
 -- No two lines of one octet, with those of a close at it, have the same class.
-pub is_apart : (S : Phase → ℕ → Signatures) → IsApart (reader_by S)
+pub is_apart : (S : Phase → ℕ → Signatures) → HasDistinctClasses (reader_by S)
 is_apart S = search (arith, octet_apart)

@@ -19,9 +19,9 @@ use Rattle.giop_message.specs.declared.part.Part.TheVariants as parts
 use Rattle.giop_message.specs.declared.part.Rest.{Rest}
 use Rattle.giop_message.specs.declared.body_type.BodyTypeId.{BodyTypeId}
 use Rattle.giop_message.specs.Signatures.{Signatures, Answers, signatures_of}
-use Rattle.giop_message.specs.Messages.{MessageLine, RestLine, ShortLine, EndLine, BodyType, Typed, body_may_be_missing, Stage, In_typed, In_padding, In_rest, Over, section_then, message, stage_of, close, section_and_rest}
+use Rattle.giop_message.specs.Messages.{MessageLine, RestLine, ShortLine, EndLine, BodyType, Typed, body_may_be_missing, Stage, In_typed, In_padding, In_rest, Over, section_then, read_message, stage_of, lines_of_close, section_and_rest}
 use Rattle.giop_message.specs.ReaderOfTable.{line_class_of, text_of}
-use Rattle.giop_message.specs.MessageState.{message_line_text, closing_text, is_short, body_type, Fits, Follows}
+use Rattle.giop_message.specs.MessageState.{message_line_text, closing_text, is_short_close, body_type, Fits, Follows}
 use Rattle.giop_message.specs.MessageSteps.{held_text, last_rest_text}
 use Rattle.giop_message.proofs.Spelling.{rest_said, end_said}
 use Rattle.giop_message.proofs.Octets.{stage_front}
@@ -62,20 +62,20 @@ lacks_none T other = refl
 short_stage : (S : Signatures) (header : List ℕ) (section : Section) (h : Noted) (lines : List
     ValueAt)
     (at : ℕ) (outer : List OpenPart) (leaf : Leaf) →
-    close (stage_of (section_and_rest S header section h (Short lines at outer leaf)))
+    lines_of_close (stage_of (section_and_rest S header section h (Short lines at outer leaf)))
     ≡ ShortLine ∷ []
-unfolding section_then stage_of close
+unfolding section_then stage_of lines_of_close
 short_stage S header section h lines at outer leaf = refl
 
 module _ {C : Table} {answers : Answers} {phase : Phase} {number : ℕ} {header : List ℕ}
     {m : Struct_of} {s : List ℕ}
     (f : Follows C answers phase number header m s) (fits : Fits C m) where
   abbrev At : Stage
-  At = stage_of (message (signatures_of C (answers number) phase) header s)
+  At = stage_of (read_message (signatures_of C (answers number) phase) header s)
 
   -- inside a section, the close is short
   pub section_short : {section : Section} → m.part ≡ parts.Typed section →
-      close At ≡ ShortLine ∷ []
+      lines_of_close At ≡ ShortLine ∷ []
   section_short {section} is = search (arith, stage_front, short_stage)
 
   pub padding_stage : {body_type_id : BodyTypeId} → m.part ≡ parts.Padding body_type_id →
@@ -89,42 +89,46 @@ module _ {C : Table} {answers : Answers} {phase : Phase} {number : ℕ} {header 
 
 -- ---- the text of the close
 
-lack_short : (test : Bool) → is_short (if test then EndLine ∷ [] else ShortLine ∷ []) ≡ not test
-unfolding is_short
+lack_short : (test : Bool) → is_short_close (if test then EndLine ∷ [] else ShortLine ∷ [])
+    ≡ not test
+unfolding is_short_close
 lack_short true = refl
 lack_short false = refl
 
-pub padding_short : (b : BodyType) → is_short (close (In_padding b)) ≡ not (body_may_be_missing b)
-unfolding close
+pub padding_short : (b : BodyType) → is_short_close (lines_of_close (In_padding b)) ≡ not
+    (body_may_be_missing b)
+unfolding lines_of_close
 padding_short b = search (arith, lack_short)
 
-pub rest_short : (offset : ℕ) (held : List ℕ) → is_short (close (In_rest offset held)) ≡ false
-unfolding close is_short
+pub rest_short : (offset : ℕ) (held : List ℕ) → is_short_close (lines_of_close
+    (In_rest offset held)) ≡ false
+unfolding lines_of_close is_short_close
 rest_short offset [] = refl
 rest_short offset (x ∷ held) = refl
 
-if_short : (test : Bool) → is_short (if test then EndLine ∷ [] else ShortLine ∷ []) ≡ true →
+if_short : (test : Bool) → is_short_close (if test then EndLine ∷ [] else ShortLine ∷ []) ≡ true →
     (if test then EndLine ∷ [] else ShortLine ∷ []) ≡ ShortLine ∷ []
-unfolding is_short
+unfolding is_short_close
 if_short true e = absurd (false≢true e)
 if_short false e = refl
 
-pub short_is : (stage : Stage) → is_short (close stage) ≡ true → close stage ≡ ShortLine ∷ []
-unfolding close is_short
+pub short_is : (stage : Stage) → is_short_close (lines_of_close stage) ≡ true →
+    lines_of_close stage ≡ ShortLine ∷ []
+unfolding lines_of_close is_short_close
 short_is (In_typed section h outer leaf) e = refl
 short_is (In_padding b) e = search (arith, if_short)
 short_is (In_rest offset []) e = absurd (false≢true e)
 short_is (In_rest offset (x ∷ held)) e = absurd (false≢true e)
 short_is Over e = absurd (false≢true e)
 
-pub short_text : (number place : ℕ) (stage : Stage) → is_short (close stage) ≡ true →
-    closing_text number place (close stage) ≡ fault_line number (codes "short") place
+pub short_text : (number place : ℕ) (stage : Stage) → is_short_close (lines_of_close stage) ≡ true →
+    closing_text number place (lines_of_close stage) ≡ fault_line number (codes "short") place
 unfolding closing_text message_line_text line_class_of text_of
 short_text number place stage e = rw (short_is stage e) (append-nil _)
 
-if_ends : (test : Bool) → is_short (if test then EndLine ∷ [] else ShortLine ∷ []) ≡ false →
+if_ends : (test : Bool) → is_short_close (if test then EndLine ∷ [] else ShortLine ∷ []) ≡ false →
     (if test then EndLine ∷ [] else ShortLine ∷ []) ≡ EndLine ∷ []
-unfolding is_short
+unfolding is_short_close
 if_ends true e = refl
 if_ends false e = absurd (false≢true (sym e))
 
@@ -139,9 +143,9 @@ unfolding closing_text message_line_text line_class_of text_of
 last_then number place offset held = search (arith, rest_said, append-nil, end_said)
 
 rest_ends : (number place offset : ℕ) (held : List ℕ) →
-    closing_text number place (close (In_rest offset held))
+    closing_text number place (lines_of_close (In_rest offset held))
     ≡ held_text number offset held ++ end_line number
-unfolding close
+unfolding lines_of_close
 rest_ends number place offset [] = ends_text_is number place
 rest_ends number place offset (x ∷ held) = search (arith, last_then)
 
@@ -149,17 +153,17 @@ module _ {C : Table} {answers : Answers} {phase : Phase} {number : ℕ} {header 
     {m : Struct_of} {s : List ℕ}
     (f : Follows C answers phase number header m s) (fits : Fits C m) (place : ℕ) where
   abbrev Close : List MessageLine
-  Close = close (stage_of (message (signatures_of C (answers number) phase) header s))
+  Close = lines_of_close (stage_of (read_message (signatures_of C (answers number) phase) header s))
 
-  ended_by : (p : Part) → m.part ≡ p → is_short Close ≡ false →
+  ended_by : (p : Part) → m.part ≡ p → is_short_close Close ≡ false →
       closing_text number place Close ≡ last_rest_text number p ++ end_line number
-  unfolding close is_short
+  unfolding lines_of_close is_short_close
   ended_by (parts.Typed section) is e =
       absurd (false≢true (sym (rw (section_short f fits is) at e)))
   ended_by (parts.Padding body_type_id) is e = search (arith, padding_stage, if_ends, ends_text_is)
-  ended_by (parts.Rest r) is e = ap (λ stage. closing_text number place (close stage))
+  ended_by (parts.Rest r) is e = ap (λ stage. closing_text number place (lines_of_close stage))
       (rest_stage f fits is) ∙ rest_ends number place r.offset r.held.items
 
-  pub ended_text : is_short Close ≡ false →
+  pub ended_text : is_short_close Close ≡ false →
       closing_text number place Close ≡ last_rest_text m.number m.part ++ end_line m.number
   ended_text e = search (arith, ended_by)

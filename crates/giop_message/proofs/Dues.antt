@@ -4,21 +4,22 @@ use Rattle.std.proofs.Math.Seq.{drop-append_seam}
 use Rattle.std.proofs.lemmas.List.{length-take-le, take-append-drop}
 use Rattle.std.proofs.lemmas.List.Concat.{flat_map-append}
 use Rattle.giop_message.specs.Signatures.{Signatures}
-use Rattle.giop_message.specs.Messages.{LineAt, Said, Over, MessageReading, ReadTo, message, message_lines, stage_of}
-use Rattle.giop_message.specs.StageSteps.{goes_on}
+use Rattle.giop_message.specs.Messages.{LineAt, Said, Over, MessageReading, ReadTo, read_message, message_lines, stage_of}
+use Rattle.giop_message.specs.StageSteps.{read_more}
 use Rattle.giop_message.specs.ReaderOfTable.{is_over}
-use Rattle.giop_message.specs.MessageState.{message_line_text, message_lines_text, due, due_text, FaultedAt}
+use Rattle.giop_message.specs.MessageState.{message_line_text, message_lines_text, more_lines, more_lines_text, FaultedAt}
 use Rattle.giop_message.proofs.Going.{stays, message_resumes}
-use Rattle.giop_message.proofs.Causal.{Behind, told_begins}
+use Rattle.giop_message.proofs.Causal.{AreAllAfter, told_begins}
 use Rattle.giop_message.proofs.Followings.{told_more}
 
 due_both : (S : Signatures) (header s xs ys : List ℕ) →
-    due S header s (xs ++ ys) ≡ due S header s xs ++ due S header (s ++ xs) ys
-unfolding due
+    more_lines S header s (xs ++ ys) ≡ more_lines S header s xs ++ more_lines S header (s ++ xs) ys
+unfolding more_lines
 due_both S header s xs ys = search (arith, append_assoc, told_more, drop, drop-append_seam)
 
 -- lines after an offset have the same places if they are counted from a later offset
-moved : (number place offset more : ℕ) (emitted : List LineAt) → Behind (offset + more) emitted →
+moved : (number place offset more : ℕ) (emitted : List LineAt) →
+    AreAllAfter (offset + more) emitted →
     message_lines_text number place offset emitted
     ≡ message_lines_text number (place + more) (offset + more) emitted
 unfolding message_lines_text
@@ -30,36 +31,38 @@ moved number place offset more (t ∷ ts) behind = search (
 )
 
 due_behind : (S : Signatures) (header s more : List ℕ) →
-    Behind (12 + length s) (due S header s more)
-unfolding due
+    AreAllAfter (12 + length s) (more_lines S header s more)
+unfolding more_lines
 due_behind S header s more =
     let g = told_begins S header s more in
-    subst (Behind (12 + length s)) (sym (ap (drop (length (message_lines (message S header s)))) g.1
-    ∙ drop-append_seam (message_lines (message S header s)) g.0)) g.2
+    subst (AreAllAfter (12 + length s)) (sym (ap (drop (length (message_lines
+    (read_message S header s)))) g.1
+    ∙ drop-append_seam (message_lines (read_message S header s)) g.0)) g.2
 
 pub text_both : (S : Signatures) (number place : ℕ) (header s xs ys : List ℕ) →
-    due_text S number place header s (xs ++ ys) ≡ due_text S number place header s xs
-    ++ due_text S number (place + length xs) header (s ++ xs) ys
-unfolding due_text message_lines_text
+    more_lines_text S number place header s (xs ++ ys) ≡ more_lines_text S number place header s xs
+    ++ more_lines_text S number (place + length xs) header (s ++ xs) ys
+unfolding more_lines_text message_lines_text
 text_both S number place header s xs ys =
     let n = 12 + length s in
     let e : 12 + length (s ++ xs) ≡ n + length xs = omega (arith, length-append s xs) in
     ap (message_lines_text number place n) (due_both S header s xs ys)
     ∙ (flat_map-append (λ t. message_line_text number (place + (t.at - n)) t.message_line)
-    (due S header s xs) (due S header (s ++ xs) ys)
-    ∙ ap (λ z. message_lines_text number place n (due S header s xs) ++ z)
-    (moved number place n (length xs) (due S header (s ++ xs) ys)
-    (subst (λ k. Behind k (due S header (s ++ xs) ys)) e (due_behind S header (s ++ xs) ys))
-    ∙ ap (λ k. message_lines_text number (place + length xs) k (due S header (s ++ xs) ys))
+    (more_lines S header s xs) (more_lines S header (s ++ xs) ys)
+    ∙ ap (λ z. message_lines_text number place n (more_lines S header s xs) ++ z)
+    (moved number place n (length xs) (more_lines S header (s ++ xs) ys)
+    (subst (λ k. AreAllAfter k (more_lines S header (s ++ xs) ys)) e (due_behind S header (s
+    ++ xs) ys))
+    ∙ ap (λ k. message_lines_text number (place + length xs) k (more_lines S header (s ++ xs) ys))
     (sym e)))
 
 pub text_none : (S : Signatures) (number place : ℕ) (header s : List ℕ) →
-    due_text S number place header s [] ≡ []
-unfolding due_text message_lines_text due
+    more_lines_text S number place header s [] ≡ []
+unfolding more_lines_text message_lines_text more_lines
 text_none S number place header s =
     rw (append-nil s) (ap (flat_map (λ t. message_line_text number
     (place + (t.at - (12 + length s))) t.message_line))
-    (drop_all_of (message_lines (message S header s))))
+    (drop_all_of (message_lines (read_message S header s))))
   where
     drop_all_of : (emitted : List LineAt) → drop (length emitted) emitted ≡ []
     drop_all_of emitted = ap (drop (length emitted)) (sym (append-nil emitted))
@@ -67,39 +70,42 @@ text_none S number place header s =
 
 -- after a fault, a message stays the same
 over_goes : (S : Signatures) (header : List ℕ) (said : Said) (at : ℕ) (t : List ℕ) →
-    goes_on S header (ReadTo said at Over) t ≡ ReadTo said at Over
+    read_more S header (ReadTo said at Over) t ≡ ReadTo said at Over
 over_goes S header said at [] = refl
 over_goes S header said at (b ∷ t) = search (arith, stays, over_goes S header said at t)
 
 over_same : (S : Signatures) (header t : List ℕ) (m : MessageReading) →
     is_over (stage_of m) ≡ true →
-    goes_on S header m t ≡ m
+    read_more S header m t ≡ m
 unfolding is_over stage_of
 over_same S header t (ReadTo said at Over) e = search (arith, over_goes)
 over_same S header t _ e = absurd cc
 
 pub over_stays : (S : Signatures) (header s more : List ℕ) →
-    is_over (stage_of (message S header s)) ≡ true →
-    message S header (s ++ more) ≡ message S header s
+    is_over (stage_of (read_message S header s)) ≡ true →
+    read_message S header (s ++ more) ≡ read_message S header s
 over_stays S header s more e = message_resumes S header s more
-    ∙ over_same S header more (message S header s) e
+    ∙ over_same S header more (read_message S header s) e
 
 pub text_over : (S : Signatures) (number place : ℕ) (header s more : List ℕ) →
-    is_over (stage_of (message S header s)) ≡ true → due_text S number place header s more ≡ []
-unfolding due_text message_lines_text due
+    is_over (stage_of (read_message S header s)) ≡ true →
+    more_lines_text S number place header s more ≡ []
+unfolding more_lines_text message_lines_text more_lines
 text_over S number place header s more e =
-    let same : message_lines (message S header (s ++ more)) ≡ message_lines (message S header s)
+    let same : message_lines (read_message S header (s ++ more)) ≡ message_lines
+    (read_message S header s)
     ++ [] =
     ap message_lines (over_stays S header s more e)
-    ∙ sym (append-nil (message_lines (message S header s))) in
-    rw (same, drop-append_seam (message_lines (message S header s)) []) refl
+    ∙ sym (append-nil (message_lines (read_message S header s))) in
+    rw (same, drop-append_seam (message_lines (read_message S header s)) []) refl
 
 -- ---- the octets so far, and more of them
 
 pub text_so_far : (S : Signatures) (number place : ℕ) (header s octets : List ℕ) (i : ℕ)
-    (more : List ℕ) → i ≤ length octets → due_text S number place header s (take i octets ++ more)
-    ≡ due_text S number place header s (take i octets)
-    ++ due_text S number (place + i) header (s ++ take i octets) more
+    (more : List ℕ) → i ≤ length octets → more_lines_text S number place header s (take i octets
+    ++ more)
+    ≡ more_lines_text S number place header s (take i octets)
+    ++ more_lines_text S number (place + i) header (s ++ take i octets) more
 text_so_far S number place header s octets i more h = search (
   arith,
   text_both,
@@ -109,12 +115,13 @@ text_so_far S number place header s octets i more h = search (
 
 -- if the message is over after the first n octets, the text of all octets is the text of these
 pub text_ended : (S : Signatures) (number place : ℕ) (header s octets : List ℕ) (n : ℕ) →
-    is_over (stage_of (message S header (s ++ take n octets))) ≡ true →
-    due_text S number place header s octets ≡ due_text S number place header s (take n octets)
+    is_over (stage_of (read_message S header (s ++ take n octets))) ≡ true →
+    more_lines_text S number place header s octets ≡ more_lines_text S number place header s
+    (take n octets)
 text_ended S number place header s octets n e =
-    ap (due_text S number place header s) (sym (take-append-drop n octets))
+    ap (more_lines_text S number place header s) (sym (take-append-drop n octets))
     ∙ (text_both S number place header s (take n octets) (drop n octets)
-    ∙ (ap (λ z. due_text S number place header s (take n octets) ++ z)
+    ∙ (ap (λ z. more_lines_text S number place header s (take n octets) ++ z)
     (text_over S number (place + length (take n octets)) header (s ++ take n octets) (drop n octets)
     e) ∙ append-nil _))
 
@@ -131,7 +138,7 @@ faulted_behind S header s octets i n h f =
     record {
       some = omega (arith, f.some);
       within = omega (arith, f.within, length-drop i octets, h);
-      here = subst (λ xs. is_over (stage_of (message S header xs)) ≡ true) (further n) f.here;
-      not_before = rw e (subst (λ xs. is_over (stage_of (message S header xs)) ≡ false)
+      here = subst (λ xs. is_over (stage_of (read_message S header xs)) ≡ true) (further n) f.here;
+      not_before = rw e (subst (λ xs. is_over (stage_of (read_message S header xs)) ≡ false)
           (further (n - 1)) f.not_before);
     }

@@ -9,20 +9,20 @@ use Rattle.giop_sig.specs.Table.{Table}
 use Rattle.giop_sig.specs.Builtin.{builtin_table}
 use Rattle.giop_decode.specs.ReadResult.{Read, Done, Short, Fault}
 use Rattle.giop_decode.specs.Reading.{reading}
-use Rattle.giop_decode.specs.Noted.{Noted, nothing_noted, noted}
+use Rattle.giop_decode.specs.Noted.{Noted, nothing_noted, note_lines}
 use Rattle.giop_message.specs.Phases.{Phase}
 use Rattle.giop_message.specs.declared.part.Section.TheVariants as sections
 use Rattle.giop_message.specs.Headers.{kind}
 use Rattle.giop_message.specs.Signatures.{Signatures, Answer, Answers, signatures_of}
-use Rattle.giop_message.specs.Messages.{coding_of, Mark, MessageReading, HeaderMark, NameMark, section_then, is_request, rest, body, body_of, is_aligned, after_header, of_header, message, message_marks, stage_of, section_and_rest}
-use Rattle.giop_message.specs.StageSteps.{advance}
-use Rattle.giop_message.specs.ReaderOfTable.{is_over, remarks_by, closes_by}
+use Rattle.giop_message.specs.Messages.{coding_of, Mark, MessageReading, HeaderMark, NameMark, section_then, is_request, read_rest, read_body, body_of, has_aligned_body, read_after_header, read_header_and_rest, read_message, message_marks, stage_of, section_and_rest}
+use Rattle.giop_message.specs.StageSteps.{read_one_more}
+use Rattle.giop_message.specs.ReaderOfTable.{is_over, timed_lines_by, lines_of_close_by}
 use Rattle.giop_message.specs.DueOctets.{StaysUndue}
-use Rattle.giop_message.specs.HeaderEnds.{HeaderEnd, Header_end, Exception_end, CallEvent, marks, noted_in, header_noted, end_of, header_ends, call_event, after_event, after_ends, AgreesAtEnds}
+use Rattle.giop_message.specs.HeaderEnds.{HeaderEnd, Header_end, Exception_end, CallEvent, marks, noted_in, header_noted, header_end_at, header_ends, call_event, after_event, after_ends, AgreesAtEnds}
 use Rattle.giop_message.proofs.Going.{message_goes}
 use Rattle.giop_message.proofs.Causal.{map_both}
 use Rattle.giop_message.proofs.Dues.{over_stays}
-use Rattle.giop_message.proofs.Marks.{OneMark, marks_front, rest_unmarked, marks_are, marks_on, ends_by, unmarked, marks_of_octet, head_unmarked}
+use Rattle.giop_message.proofs.Marks.{AtMostOneMark, marks_front, rest_unmarked, marks_are, marks_on, ends_by, unmarked, marks_of_octet, head_unmarked}
 
 -- ---- what is noted of a header that has ended
 
@@ -55,7 +55,7 @@ header_ended P phase number header s more e each =
     (subst (Each P) (ends_by phase number header s more all.0 all.1) each)
   where
     go : (later : List Mark) → noted_in (marks phase header (s ++ more)) ≡ noted_in later →
-        Each P (map (end_of number header) later) →
+        Each P (map (header_end_at number header) later) →
         (noted_in (marks phase header (s ++ more)) ≡ None)
         ⊎ ((n : Noted) × P (Header_end number header n))
     go [] is h = inl is
@@ -79,7 +79,7 @@ header_ends_both phase number header s xs ys =
       ends_by phase number header (s ++ xs) ys
           two.0 two.1,
     )
-    (map_both (end_of number header) one.0 two.0)
+    (map_both (header_end_at number header) one.0 two.0)
 
 pub header_ends_none : (phase : Phase) (number : ℕ) (header s : List ℕ) → header_ends phase number
     header s [] ≡ []
@@ -100,7 +100,7 @@ ends_further phase number header s octets t j none =
 -- if nothing ends in more octets, a correspondent that isn't due stays so
 module _ {St : Type 0} (due : St → Bool) (notified : St → CallEvent → St) (C : Table) (st : St)
     (phase : Phase) (number : ℕ) (header s octets : List ℕ) where
-  abbrev Undue : ℕ → Type 0
+  abbrev Undue : (k : ℕ) → Type 0
   Undue k = StaysUndue due notified C st (header_ends phase number header s) (take k octets)
 
   pub fronts_on : (t n : ℕ) → ((k : ℕ) → k ≤ t → Undue k) →
@@ -135,14 +135,15 @@ one_octet phase number header s x = go one.0 one.1 one.2
     S = signatures_of builtin_table (λ id. None) phase
 
     now : MessageReading
-    now = message S header s
+    now = read_message S header s
 
-    one : (ms : List Mark) × (message_marks (advance S header now x) ≡ message_marks now ++ ms)
-        × OneMark (stage_of now) ms
+    one : (ms : List Mark) × (message_marks (read_one_more S header now x) ≡ message_marks now
+        ++ ms)
+        × AtMostOneMark (stage_of now) ms
     one = marks_of_octet S header now x
 
-    go : (ms : List Mark) → message_marks (advance S header now x) ≡ message_marks now ++ ms →
-        OneMark (stage_of now) ms →
+    go : (ms : List Mark) → message_marks (read_one_more S header now x) ≡ message_marks now ++ ms →
+        AtMostOneMark (stage_of now) ms →
         (header_ends phase number header s (x ∷ []) ≡ [])
         ⊎ (((n : Noted) × (header_noted phase header s ≡ None)
         × (header_noted phase header (s ++ x ∷ []) ≡ Some n)
@@ -154,7 +155,7 @@ one_octet phase number header s x = go one.0 one.1 one.2
         ap message_marks (message_goes S header s x) ∙ grows in
         let ends = ends_by phase number header s (x ∷ []) ms grown in
         elim one' [
-          | inl none ↦ inl (ends ∙ ap (map (end_of number header)) none)
+          | inl none ↦ inl (ends ∙ ap (map (header_end_at number header)) none)
           | inr some ↦ elim some [
             | inl head ↦
                 let before = ap noted_in (head_unmarked S header s head.2) in
@@ -163,9 +164,9 @@ one_octet phase number header s x = go one.0 one.1 one.2
                   before,
                   ap noted_in grown ∙ (noted_later (marks phase header s) ms before
                       ∙ ap noted_in head.1),
-                  ends ∙ ap (map (end_of number header)) head.1,
+                  ends ∙ ap (map (header_end_at number header)) head.1,
                 ))
-            | inr name ↦ inr (inr (name.0, ends ∙ ap (map (end_of number header)) name.1))
+            | inr name ↦ inr (inr (name.0, ends ∙ ap (map (header_end_at number header)) name.1))
           ]
         ]
 
@@ -173,7 +174,7 @@ one_octet phase number header s x = go one.0 one.1 one.2
 
 pub over_none : (C : Table) (answer : Answer) (phase : Phase) (number : ℕ)
     (header s more : List ℕ) →
-    is_over (stage_of (message (signatures_of C answer phase) header s)) ≡ true →
+    is_over (stage_of (read_message (signatures_of C answer phase) header s)) ≡ true →
     header_ends phase number header s more ≡ []
 over_none C answer phase number header s more e =
     unmarked C answer phase number header s more
@@ -184,8 +185,8 @@ over_none C answer phase number header s more e =
 module _ (P : HeaderEnd → Type 0) (phase : Phase) (number : ℕ) (header : List ℕ)
     (fragment : kind header ≡ 7)
     (heads : (n : Noted) → P (Header_end number header n)) where
-  abbrev few : List Mark → Type 0
-  few ms = (k : ℕ) → Each P (map (end_of number header) (drop k ms))
+  abbrev few : (ms : List Mark) → Type 0
+  few ms = (k : ℕ) → Each P (map (header_end_at number header) (drop k ms))
 
   bare : few []
   bare zero = tt
@@ -196,28 +197,28 @@ module _ (P : HeaderEnd → Type 0) (phase : Phase) (number : ℕ) (header : Lis
   one_head n (suc k) = bare k
 
   bodiless : (S : Signatures) (h : Noted) (at : ℕ) (s : List ℕ) →
-      after_header S header h at s ≡ rest at s
-  unfolding after_header is_aligned body_of is_request body
+      read_after_header S header h at s ≡ read_rest at s
+  unfolding read_after_header has_aligned_body body_of is_request read_body
   bodiless S h at s = rw fragment refl
 
   alone : (S : Signatures) (r : Read) →
       few (message_marks (section_and_rest S header sections.Header nothing_noted r))
   unfolding section_then message_marks
   alone S (Done lines at s) =
-      let n = noted true nothing_noted lines in
+      let n = note_lines true nothing_noted lines in
       subst few (sym (marks_front _ _ ∙ ap (λ (ms : List Mark). HeaderMark n ∷ ms)
       (ap message_marks (bodiless S n at s) ∙ rest_unmarked at s))) (one_head n)
   alone S (Short lines at outer leaf) = bare
   alone S (Fault lines at why T) = bare
 
   by_type : (S : Signatures) (found : Option Ty) (s : List ℕ) →
-      few (message_marks (of_header S header found 12 s))
-  unfolding of_header
+      few (message_marks (read_header_and_rest S header found 12 s))
+  unfolding read_header_and_rest
   by_type S None s = subst few (sym (rest_unmarked 12 s)) bare
   by_type S (Some T) s = alone S (reading (coding_of S header) [] T 12 s)
 
   pub bodiless_ends : (s more : List ℕ) → Each P (header_ends phase number header s more)
-  unfolding header_ends marks message
+  unfolding header_ends marks read_message
   bodiless_ends s more = by_type (signatures_of builtin_table (λ id. None) phase) _ (s ++ more)
       (length (marks phase header s))
 
@@ -254,7 +255,7 @@ module _ (phase : Phase) (number : ℕ) (header s octets : List ℕ) (t : ℕ) w
       ∙ header_ends_both phase number header s (take t octets) (drop t octets)
 
   pub ends_over : (C : Table) (answer : Answer) →
-      is_over (stage_of (message (signatures_of C answer phase) header (s ++ take t octets))) ≡
+      is_over (stage_of (read_message (signatures_of C answer phase) header (s ++ take t octets))) ≡
       true →
       header_ends phase number header s octets ≡ header_ends phase number header s (take t octets)
   ends_over C answer over = search (arith, ends_split, take, over_none, drop, append-nil)
@@ -290,10 +291,11 @@ through_header C x y phase header (Fault lines at why T) none = refl
 
 unended_by : (C : Table) (x y : Answer) (phase : Phase) (header : List ℕ) (found : Option Ty)
     (s : List ℕ) →
-    noted_in (message_marks (of_header (signatures_of C x phase) header found 12 s)) ≡ None →
-    of_header (signatures_of C x phase) header found 12 s
-    ≡ of_header (signatures_of C y phase) header found 12 s
-unfolding of_header signatures_of
+    noted_in (message_marks (read_header_and_rest (signatures_of C x phase) header found 12 s))
+    ≡ None →
+    read_header_and_rest (signatures_of C x phase) header found 12 s
+    ≡ read_header_and_rest (signatures_of C y phase) header found 12 s
+unfolding read_header_and_rest signatures_of
 unended_by C x y phase header None s e = refl
 unended_by C x y phase header (Some T) s e =
     through_header C x y phase header (reading (coding_of (signatures_of C x phase) header) [] T 12
@@ -301,22 +303,25 @@ unended_by C x y phase header (Some T) s e =
 
 pub unended_agree : (C : Table) (x y : Answer) (phase : Phase) (header s : List ℕ) → header_noted
     phase header s ≡ None →
-    message (signatures_of C x phase) header s ≡ message (signatures_of C y phase) header s
-unfolding header_noted message signatures_of
+    read_message (signatures_of C x phase) header s ≡ read_message
+    (signatures_of C y phase) header s
+unfolding header_noted read_message signatures_of
 unended_agree C x y phase header s e = unended_by C x y phase header _ s
     (ap noted_in (sym (marks_are C x phase header s)) ∙ e)
 
 -- if two answers agree, or if the header has not ended, a message has the same lines by both
 pub alike_remarks : (C : Table) (x y : Answer) (phase : Phase) (header s : List ℕ) → (x ≡ y)
     ⊎ (header_noted phase header s ≡ None) →
-    remarks_by (signatures_of C x phase) header s ≡ remarks_by (signatures_of C y phase) header s
-unfolding remarks_by
+    timed_lines_by (signatures_of C x phase) header s ≡ timed_lines_by
+    (signatures_of C y phase) header s
+unfolding timed_lines_by
 alike_remarks C x y phase header s (inl e) = search (arith)
 alike_remarks C x y phase header s (inr e) = search (arith, map, unended_agree)
 
 pub alike_closes : (C : Table) (x y : Answer) (phase : Phase) (header s : List ℕ) → (x ≡ y)
     ⊎ (header_noted phase header s ≡ None) →
-    closes_by (signatures_of C x phase) header s ≡ closes_by (signatures_of C y phase) header s
-unfolding closes_by
+    lines_of_close_by (signatures_of C x phase) header s ≡ lines_of_close_by
+    (signatures_of C y phase) header s
+unfolding lines_of_close_by
 alike_closes C x y phase header s (inl e) = search (arith)
 alike_closes C x y phase header s (inr e) = search (arith, map, unended_agree)

@@ -7,39 +7,39 @@ use Rattle.std.specs.List.{AllByRecursion as Each}
 use Rattle.std.specs.Option.{option_map}
 use Rattle.std.specs.Str.{bytes_eq}
 use Rattle.std.proofs.lemmas.Bool.{false≢true, cases_lt}
-use Rattle.giop_sig.specs.Types.{Ty, Struct, Hearing, Told, Sequel, Then, Ends, Stops, part_of, sequel}
+use Rattle.giop_sig.specs.Types.{Ty, Struct, TypeInference, InferredType, Sequel, Then, Ends, Stops, part_of, sequel}
 use Rattle.giop_decode.specs.declared.progress.ValueFault.TheVariants as kinds
 use Rattle.giop_sig.specs.Fits.{IsFit}
 use Rattle.giop_sig.specs.Trees.{tree, tree_at}
 use Rattle.giop_sig.specs.Builtin.{builtin_types}
 use Rattle.giop_sig.specs.AnyTypes.{first_table}
-use Rattle.giop_sig.specs.HeaderTypes.{header_type, header_number}
+use Rattle.giop_sig.specs.HeaderTypes.{header_type, header_type_number}
 use Rattle.giop_sig.proofs.Builtins.{builtin_is, builtin_fit, builtin_len, header_built_in}
 use Rattle.giop_decode.specs.ReadResult
-use Rattle.giop_decode.specs.ReadResult.{Coding, PathSegment, Name, Switch, Held, ValueAt, OpenPart, Part, Member, Inside, Leaf, LeadingNumber, Opening, Content, Read, Done, Short, Fault, lines_of, with_front, followed, within, Telling}
-use Rattle.giop_decode.specs.Reading.{parts_from, following, led, told_after, none_left, rooted}
-use Rattle.giop_decode.specs.ReadingSteps.{IsOctetResult, part_at, path_in, segment_of, segment_in, step, resumed, IsEmptyResult, after_told, root_step, leaf_step}
-use Rattle.giop_sig.specs.Hearings.{hearing_in}
+use Rattle.giop_decode.specs.ReadResult.{Coding, PathSegment, Name, Switch, Held, ValueAt, OpenPart, Part, Member, Inside, Leaf, LeadingNumber, Opening, Content, Read, Done, Short, Fault, lines_of, with_front, read_then, within, Telling}
+use Rattle.giop_decode.specs.Reading.{parts_from, read_sequel, led, told_after, none_left, done_if_untyped}
+use Rattle.giop_decode.specs.ReadingSteps.{IsOctetResult, part_at, path_in, segment_of, segment_in, step, resume_part, IsEmptyResult, after_told, root_step, leaf_step}
+use Rattle.giop_sig.specs.Hearings.{inference_in}
 use Rattle.giop_decode.specs.Fits.{FitsIn}
 use Rattle.giop_decode.specs.Noted.{is_member, ends_operation, ends_text}
 use Rattle.giop_decode.proofs.ReadingLaws.{quiet_within, read_quiet, step_now, next_part, switch_member, now_within, parts_quiet}
 use Rattle.giop_message.proofs.AlikeReadings.{AreAlike}
 use Rattle.giop_message.proofs.AlikeHeaders.{found_alike, headers_alike}
-use Rattle.giop_message.proofs.StepLines.{IsOf, step_of, Firm, leaf_says}
+use Rattle.giop_message.proofs.StepLines.{IsLineAtPath, step_of, EndsNoTextOrGoesOn, leaf_says}
 
 -- a struct whose last part has another name
-abbrev pub EndsOtherwise : Ty → Type 0
-EndsOtherwise T = (n : ℕ) × (names : ℕ → List ℕ) × (parts : ℕ → Ty)
+abbrev pub LastPartIsNotOperation : (type : Ty) → Type 0
+LastPartIsNotOperation T = (n : ℕ) × (names : ℕ → List ℕ) × (parts : ℕ → Ty)
     × (T ≡ Struct (suc n) names parts) × (bytes_eq (codes "operation") (names n) ≡ false)
 
-request_ends_first : (minor : ℕ) → IfSome (header_type 1 minor 0) EndsOtherwise
+request_ends_first : (minor : ℕ) → IfSome (header_type 1 minor 0) LastPartIsNotOperation
 unfolding tree_at builtin_types
 request_ends_first (suc (suc (suc minor))) = tt
 request_ends_first _ = (_, _, _, refl, refl)
 
 struct_ends : (n : ℕ) (names : ℕ → List ℕ) (parts : ℕ → Ty) (B : Ty) →
     bytes_eq (codes "operation") (names n) ≡ false → AreAlike [] (Struct (suc n) names parts) B →
-    EndsOtherwise B
+    LastPartIsNotOperation B
 struct_ends n names parts (Struct m others bodies) other (same, called, each) = (
   n,
   others,
@@ -49,12 +49,12 @@ struct_ends n names parts (Struct m others bodies) other (same, called, each) = 
 )
 struct_ends n names parts B other alike = absurd alike
 
-ends_alike : (A B : Ty) → AreAlike [] A B → EndsOtherwise A → EndsOtherwise B
+ends_alike : (A B : Ty) → AreAlike [] A B → LastPartIsNotOperation A → LastPartIsNotOperation B
 ends_alike A B alike (n, names, parts, is, other) =
     struct_ends n names parts B other (subst (λ T. AreAlike [] T B) is alike)
 
-pub request_ends : (version minor : ℕ) → IfSome (header_type version minor 0) EndsOtherwise
-request_ends version minor = found_alike EndsOtherwise ends_alike (header_type 1 minor 0)
+pub request_ends : (version minor : ℕ) → IfSome (header_type version minor 0) LastPartIsNotOperation
+request_ends version minor = found_alike LastPartIsNotOperation ends_alike (header_type 1 minor 0)
     (header_type version minor 0) (headers_alike version minor 0) (request_ends_first minor)
 
 -- ---- the types of headers fit
@@ -67,7 +67,8 @@ number_fit version (Some n) h = builtin_fit (first_table version) n (builtin_is 
 pub header_fit : (version minor kind : ℕ) (T : Ty) → header_type version minor kind ≡ Some T →
     IsFit 24 T
 header_fit version minor kind T e = subst (λ found. IfSome found (IsFit 24)) e
-    (number_fit version (header_number version minor kind) (header_built_in version minor kind))
+    (number_fit version (header_type_number version minor kind)
+    (header_built_in version minor kind))
 
 -- ---- no operation at the end
 
@@ -86,23 +87,23 @@ both_false : (a b c : Bool) → b ≡ false → (a && (b && c)) ≡ false
 both_false true b c e = rw e refl
 both_false false b c e = refl
 
-no_end : (is : Bool) (path : List PathSegment) (l : ValueAt) → IsOf path l →
+no_end : (is : Bool) (path : List PathSegment) (l : ValueAt) → IsLineAtPath path l →
     is_member (codes "operation") path ≡ false → ends_operation is l ≡ false
 no_end is path l of e = search (arith, both_false, switch_member)
 
 pub no_ends : (is : Bool) (path : List PathSegment) (lines : List ValueAt) →
-    Each (IsOf path) lines →
+    Each (IsLineAtPath path) lines →
     is_member (codes "operation") path ≡ false → Each (λ l. ends_operation is l ≡ false) lines
 no_ends is path [] each e = tt
 no_ends is path (l ∷ ls) each e = search (arith, no_end, no_ends is path ls each.1 e)
 
 -- whether a reading is done
-abbrev pub done_test : Read → Bool
-done_test (Done lines at rest) = true
-done_test r = false
+abbrev pub is_done : (reading : Read) → Bool
+is_done (Done lines at rest) = true
+is_done r = false
 
 short_front : (front : List ValueAt) (r : Read) (at : ℕ) (outer : List OpenPart) (leaf : Leaf) →
-    with_front [] r ≡ Short [] at outer leaf → done_test (with_front front r) ≡ false
+    with_front [] r ≡ Short [] at outer leaf → is_done (with_front front r) ≡ false
 short_front front (Done lines at rest) at' outer leaf e = search (arith, false≢true)
 short_front front r at' outer' leaf' e = refl
 
@@ -110,7 +111,7 @@ short_front front r at' outer' leaf' e = refl
 goes_on : (coding : Coding) (d n : ℕ) (names : ℕ → List ℕ) (parts : ℕ → Ty) (i at : ℕ)
     (inner : Read) → IsFit (suc d) (Struct (suc n) names parts) → suc i < suc n →
     IsOctetResult at inner →
-    done_test (resumed coding [] (Part (Struct (suc n) names parts) i (suc n)) inner) ≡ false
+    is_done (resume_part coding [] (Part (Struct (suc n) names parts) i (suc n)) inner) ≡ false
 goes_on coding d n names parts i at (Done lines at' rest) fit below now =
     let T = Struct (suc n) names parts in
     rw (now.1, now.2)
@@ -122,12 +123,12 @@ goes_on coding d n names parts i at _ fit below now = refl
 module _ (coding : Coding) (is : Bool) (n : ℕ) (names : ℕ → List ℕ) (parts : ℕ → Ty)
     (fit : IsFit 24 (Struct (suc n) names parts))
     (other : bytes_eq (codes "operation") (names n) ≡ false) (at b : ℕ) where
-  abbrev NoCalls : List OpenPart → Leaf → Type 0
+  abbrev NoCalls : (outer : List OpenPart) (leaf : Leaf) → Type 0
   NoCalls outer leaf = Each (λ l. ends_operation is l ≡ false)
       (lines_of (step coding [] outer leaf at b))
 
   in_part : (i : ℕ) (leaf : Leaf) → FitsIn (parts i) [] leaf → i < suc n →
-      done_test (step coding [] (Part (Struct (suc n) names parts) i (suc n) ∷ []) leaf at b)
+      is_done (step coding [] (Part (Struct (suc n) names parts) i (suc n) ∷ []) leaf at b)
       ≡ true → NoCalls (Part (Struct (suc n) names parts) i (suc n) ∷ []) leaf
   in_part i leaf fits below done = go (cases_lt (suc i) (suc n))
     where
@@ -146,7 +147,7 @@ module _ (coding : Coding) (is : Bool) (n : ℕ) (names : ℕ → List ℕ) (par
 
   in_struct : (outer : List OpenPart) (leaf : Leaf) →
       FitsIn (Struct (suc n) names parts) outer leaf →
-      done_test (step coding [] outer leaf at b) ≡ true → NoCalls outer leaf
+      is_done (step coding [] outer leaf at b) ≡ true → NoCalls outer leaf
   in_struct [] (LeadingNumber U carry) fits done = absurd fits.kind
   in_struct [] (Opening U n) fits done = absurd fits.kind
   in_struct [] (Content U total offset piece) fits done = absurd fits.kind
@@ -161,8 +162,8 @@ module _ (coding : Coding) (is : Bool) (n : ℕ) (names : ℕ → List ℕ) (par
 
 -- if the octet ends a header of such a type, none of its lines ends an operation
 pub last_no_call : (coding : Coding) (is : Bool) (T : Ty) (outer : List OpenPart) (leaf : Leaf)
-    (at b : ℕ) → EndsOtherwise T → IsFit 24 T → FitsIn T outer leaf →
-    done_test (step coding [] outer leaf at b) ≡ true →
+    (at b : ℕ) → LastPartIsNotOperation T → IsFit 24 T → FitsIn T outer leaf →
+    is_done (step coding [] outer leaf at b) ≡ true →
     Each (λ l. ends_operation is l ≡ false) (lines_of (step coding [] outer leaf at b))
 last_no_call coding is T outer leaf at b (n, names, parts, same, other) fit fits done =
     in_struct coding is n names parts (subst (IsFit 24) same fit) other at b outer leaf
@@ -170,14 +171,14 @@ last_no_call coding is T outer leaf at b (n, names, parts, same, other) fit fits
 
 -- if a reading is faulted, no line of it ends an operation, unless the fault is that octets without
 -- a type follow (`Untyped`)
-abbrev pub CallsIn : Bool → Read → Type 0
-CallsIn is (Fault lines at kinds.Untyped T) = Unit {0}
-CallsIn is (Fault lines at why T) = Each (λ l. ends_operation is l ≡ false) lines
-CallsIn is _ = Unit {0}
+abbrev pub NoCallUnlessUntyped : (is : Bool) (read : Read) → Type 0
+NoCallUnlessUntyped is (Fault lines at kinds.Untyped T) = Unit {0}
+NoCallUnlessUntyped is (Fault lines at why T) = Each (λ l. ends_operation is l ≡ false) lines
+NoCallUnlessUntyped is _ = Unit {0}
 
 -- this holds if no line of the reading ends an operation
 each_none : (is : Bool) (r : Read) → Each (λ l. ends_operation is l ≡ false) (lines_of r) →
-    CallsIn is r
+    NoCallUnlessUntyped is r
 each_none is (Fault lines at kinds.Untyped T) h = tt
 each_none is (Fault lines at why T) h = h
 each_none is _ h = tt
@@ -192,7 +193,7 @@ ends_none : (is : Bool) (lines : List ValueAt) → Each (λ l. ends_text l.value
 ends_none is [] h = tt
 ends_none is (l ∷ ls) h = search (arith, and_false, ends_none is ls h.1)
 
-firm_none : (is : Bool) (r : Read) → Firm r → CallsIn is r
+firm_none : (is : Bool) (r : Read) → EndsNoTextOrGoesOn r → NoCallUnlessUntyped is r
 firm_none is (Done lines at rest) h = tt
 firm_none is (Short lines at outer leaf) h = tt
 firm_none is (Fault lines at kinds.Untyped T) h = tt
@@ -202,28 +203,31 @@ firm_none is (Fault lines at why T) (inr h) = absurd (false≢true (sym h.1))
 -- ---- the parts around the innermost one
 
 followed_none : (is : Bool) (n : ℕ) (r : Read) (next : ℕ → List ℕ → Read) → IsOctetResult n r →
-    IsEmptyResult n (next n []) → CallsIn is r → CallsIn is (followed r next)
+    IsEmptyResult n (next n []) → NoCallUnlessUntyped is r →
+    NoCallUnlessUntyped is (read_then r next)
 followed_none is n (Done lines at rest) next now quiet h = search (arith)
 followed_none is n (Short lines at outer leaf) next now quiet h = tt
 followed_none is n (Fault lines at why T) next now quiet h = h
 
-within_none : (is : Bool) (place : OpenPart) (r : Read) → CallsIn is r →
-    CallsIn is (within place r)
+within_none : (is : Bool) (place : OpenPart) (r : Read) → NoCallUnlessUntyped is r →
+    NoCallUnlessUntyped is (within place r)
 within_none is place (Done lines at rest) h = h
 within_none is place r h = h
 
-led_none : (is : Bool) (n : ℕ) (T : Ty) (g : Hearing) (told : Told) (part : ℕ → ℕ → List ℕ → Read)
-    (r : Read) → ((i : ℕ) → IsEmptyResult n (part i n [])) → IsOctetResult n r → CallsIn is r →
-    CallsIn is (led T g told part r)
+led_none : (is : Bool) (n : ℕ) (T : Ty) (g : TypeInference) (told : InferredType)
+    (part : ℕ → ℕ → List ℕ → Read)
+    (r : Read) → ((i : ℕ) → IsEmptyResult n (part i n [])) → IsOctetResult n r →
+    NoCallUnlessUntyped is r →
+    NoCallUnlessUntyped is (led T g told part r)
 led_none is n T g told part (Done lines at rest) each now h =
     rw (now.1, now.2) (go (sequel g (told_after g told lines)))
   where
-    behind : (q : Read) → IsEmptyResult n q → CallsIn is (with_front lines q)
+    behind : (q : Read) → IsEmptyResult n q → NoCallUnlessUntyped is (with_front lines q)
     behind (Done ls at rest) k = tt
     behind (Short ls at outer leaf) k = tt
     behind (Fault ls at why S) k = absurd k
 
-    go : (what : Sequel) → CallsIn is (with_front lines (following T what part n []))
+    go : (what : Sequel) → NoCallUnlessUntyped is (with_front lines (read_sequel T what part n []))
     go (Then i) = behind (part i n []) (each i)
     go Ends = tt
     go Stops = tt
@@ -242,7 +246,7 @@ held_member name (a ∷ b ∷ path) outer = search (arith, deep_member)
 -- ends no operation.
 pub step_none : (is : Bool) (coding : Coding) (path : List PathSegment) (outer : List OpenPart)
     (leaf : Leaf)
-    (at b : ℕ) → CallsIn is (step coding path outer leaf at b)
+    (at b : ℕ) → NoCallUnlessUntyped is (step coding path outer leaf at b)
 step_none is coding path [] leaf at b = search (arith, firm_none, leaf_says)
 step_none is coding path (Part T i count ∷ outer) leaf at b =
     let inner = step coding (path ++ segment_of T i ∷ []) outer leaf at b in
@@ -257,7 +261,7 @@ step_none is coding path (Member T i ∷ outer) leaf at b =
     within_none is (Member T i) (step coding (path ++ segment_of T i ∷ []) outer leaf at b)
     (step_none is coding (path ++ segment_of T i ∷ []) outer leaf at b)
 step_none is coding path (Telling T told ∷ outer) leaf at b =
-    led_none is (at + 1) T (hearing_in T) told (after_told coding path T)
+    led_none is (at + 1) T (inference_in T) told (after_told coding path T)
     (step coding (path ++ segment_of T 0 ∷ []) outer leaf at b)
     (λ i. quiet_within (at + 1) (Member T (suc i)) _
     (read_quiet coding (path ++ segment_of T (suc i) ∷ []) (part_of T (suc i)) (at + 1)))
@@ -270,35 +274,36 @@ step_none is coding path (Inside T inner end ∷ outer) leaf at b =
     (held_member (codes "operation") path outer))
 
 -- if the reading of a complete value is faulted, no line of it ends an operation
-abbrev pub CallsNone : Bool → Read → Type 0
-CallsNone is (Fault lines at why T) = Each (λ l. ends_operation is l ≡ false) lines
-CallsNone is _ = Unit {0}
+abbrev pub NoCallIfFaulted : (is : Bool) (read : Read) → Type 0
+NoCallIfFaulted is (Fault lines at why T) = Each (λ l. ends_operation is l ≡ false) lines
+NoCallIfFaulted is _ = Unit {0}
 
-rooted_none : (is : Bool) (r : Read) → CallsIn is r → CallsNone is (rooted none_left r)
+rooted_none : (is : Bool) (r : Read) → NoCallUnlessUntyped is r →
+    NoCallIfFaulted is (done_if_untyped none_left r)
 rooted_none is (Fault lines at kinds.Untyped T) h = tt
 rooted_none is (Fault lines at why T) h = h
 rooted_none is (Done lines at rest) h = tt
 rooted_none is (Short lines at outer leaf) h = tt
 
 pub root_none : (is : Bool) (coding : Coding) (path : List PathSegment) (outer : List OpenPart)
-    (leaf : Leaf) (at b : ℕ) → CallsNone is (root_step coding path outer leaf at b)
+    (leaf : Leaf) (at b : ℕ) → NoCallIfFaulted is (root_step coding path outer leaf at b)
 root_none is coding path outer leaf at b = search (arith, rooted_none, step_none)
 
 -- ---- the octet that ends a complete value
 
 -- if octets without a type follow (`Untyped`), no line ends an operation
-abbrev StillNone : Bool → Read → Type 0
-StillNone is (Fault lines at kinds.Untyped T) = Each (λ l. ends_operation is l ≡ false) lines
-StillNone is _ = Unit {0}
+abbrev NoCallIfUntyped : (is : Bool) (read : Read) → Type 0
+NoCallIfUntyped is (Fault lines at kinds.Untyped T) = Each (λ l. ends_operation is l ≡ false) lines
+NoCallIfUntyped is _ = Unit {0}
 
 still_each : (is : Bool) (r : Read) → Each (λ l. ends_operation is l ≡ false) (lines_of r) →
-    StillNone is r
+    NoCallIfUntyped is r
 still_each is (Fault lines at kinds.Untyped T) h = h
 still_each is (Fault lines at why T) h = tt
 still_each is (Done lines at rest) h = tt
 still_each is (Short lines at outer leaf) h = tt
 
-still_firm : (is : Bool) (r : Read) → Firm r → StillNone is r
+still_firm : (is : Bool) (r : Read) → EndsNoTextOrGoesOn r → NoCallIfUntyped is r
 still_firm is (Fault lines at kinds.Untyped T) (inl h) = ends_none is lines h
 still_firm is (Fault lines at kinds.Untyped T) (inr h) = absurd (false≢true (sym h.1))
 still_firm is (Fault lines at why T) h = tt
@@ -306,25 +311,26 @@ still_firm is (Done lines at rest) h = tt
 still_firm is (Short lines at outer leaf) h = tt
 
 still_followed : (is : Bool) (n : ℕ) (r : Read) (next : ℕ → List ℕ → Read) → IsOctetResult n r →
-    IsEmptyResult n (next n []) → StillNone is r → StillNone is (followed r next)
+    IsEmptyResult n (next n []) → NoCallIfUntyped is r → NoCallIfUntyped is (read_then r next)
 still_followed is n (Done lines at rest) next now quiet h =
     rw (now.1, now.2) (behind (next n []) quiet)
   where
-    behind : (q : Read) → IsEmptyResult n q → StillNone is (ReadResult.with_front lines q)
+    behind : (q : Read) → IsEmptyResult n q → NoCallIfUntyped is (ReadResult.with_front lines q)
     behind (Done ls at rest) k = tt
     behind (Short ls at outer leaf) k = tt
     behind (Fault ls at why S) k = absurd k
 still_followed is n (Short lines at outer leaf) next now quiet h = tt
 still_followed is n (Fault lines at why T) next now quiet h = h
 
-still_within : (is : Bool) (place : OpenPart) (r : Read) → StillNone is r →
-    StillNone is (within place r)
+still_within : (is : Bool) (place : OpenPart) (r : Read) → NoCallIfUntyped is r →
+    NoCallIfUntyped is (within place r)
 still_within is place (Done lines at rest) h = tt
 still_within is place r h = h
 
 still_struct : (coding : Coding) (is : Bool) (n : ℕ) (names : ℕ → List ℕ) (parts : ℕ → Ty)
     (outer : List OpenPart) (leaf : Leaf) (at b : ℕ) →
-    FitsIn (Struct (suc n) names parts) outer leaf → StillNone is (step coding [] outer leaf at b)
+    FitsIn (Struct (suc n) names parts) outer leaf → NoCallIfUntyped is
+    (step coding [] outer leaf at b)
 still_struct coding is n names parts [] (LeadingNumber U carry) at b fits = absurd fits.kind
 still_struct coding is n names parts [] (Opening U k) at b fits = absurd fits.kind
 still_struct coding is n names parts [] (Content U total offset piece) at b fits = absurd fits.kind
@@ -348,23 +354,23 @@ still_struct coding is n names parts (Part U i count ∷ place ∷ outer) leaf a
     (deep_member (codes "operation") (segment_of U i) (segment_in place) [] outer))
 
 pub root_no_call : (coding : Coding) (is : Bool) (T : Ty) (outer : List OpenPart) (leaf : Leaf)
-    (at b : ℕ) → EndsOtherwise T → IsFit 24 T → FitsIn T outer leaf →
-    done_test (root_step coding [] outer leaf at b) ≡ true →
+    (at b : ℕ) → LastPartIsNotOperation T → IsFit 24 T → FitsIn T outer leaf →
+    is_done (root_step coding [] outer leaf at b) ≡ true →
     Each (λ l. ends_operation is l ≡ false) (lines_of (root_step coding [] outer leaf at b))
 root_no_call coding is T outer leaf at b ends fit fits done =
     go (step coding [] outer leaf at b) (last_no_call coding is T outer leaf at b ends fit fits)
     still done
   where
-    still : StillNone is (step coding [] outer leaf at b)
+    still : NoCallIfUntyped is (step coding [] outer leaf at b)
     still = by ends
       where
-        by : EndsOtherwise T → StillNone is (step coding [] outer leaf at b)
+        by : LastPartIsNotOperation T → NoCallIfUntyped is (step coding [] outer leaf at b)
         by (n, names, parts, same, other) = still_struct coding is n names parts outer leaf at b
             (subst (λ U. FitsIn U outer leaf) same fits)
 
-    go : (r : Read) → (done_test r ≡ true → Each (λ l. ends_operation is l ≡ false) (lines_of r)) →
-        StillNone is r → done_test (rooted none_left r) ≡ true →
-        Each (λ l. ends_operation is l ≡ false) (lines_of (rooted none_left r))
+    go : (r : Read) → (is_done r ≡ true → Each (λ l. ends_operation is l ≡ false) (lines_of r)) →
+        NoCallIfUntyped is r → is_done (done_if_untyped none_left r) ≡ true →
+        Each (λ l. ends_operation is l ≡ false) (lines_of (done_if_untyped none_left r))
     go (Done lines at' rest) h k e = h refl
     go (Short lines at' outer' leaf') h k e = absurd (false≢true e)
     go (Fault lines at' kinds.Untyped S) h k e = k

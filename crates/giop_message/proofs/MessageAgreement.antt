@@ -14,8 +14,8 @@ use Rattle.giop_message.specs.declared.part.Part.TheVariants as parts
 use Rattle.giop_message.specs.declared.part.Section.{Section}
 use Rattle.giop_message.specs.declared.part.Section.TheVariants as sections
 use Rattle.giop_message.specs.Signatures.{Answer, Answers, signatures_of}
-use Rattle.giop_message.specs.Messages.{coding_of, Said, message_marks, section_then, section_and_rest, after_exception, members_of, with_front}
-use Rattle.giop_message.specs.MessageState.{Decodes, Stands, Follows}
+use Rattle.giop_message.specs.Messages.{coding_of, Said, message_marks, section_then, section_and_rest, read_after_exception, members_of, with_front}
+use Rattle.giop_message.specs.MessageState.{Decodes, PartFollows, Follows}
 use Rattle.giop_message.specs.HeaderEnds.{noted_in, header_noted}
 use Rattle.giop_message.proofs.HeaderEndLaws.{through_header, unended_agree}
 use Rattle.giop_message.proofs.Marks.{marks_front, marks_are}
@@ -37,7 +37,7 @@ header_read C x phase number header s d e =
 through_exception : (C : Table) (x y : Answer) (phase : Phase) (header : List ℕ) (r : Read) →
     section_and_rest (signatures_of C x phase) header sections.Exception nothing_noted r
     ≡ section_and_rest (signatures_of C y phase) header sections.Exception nothing_noted r
-unfolding section_then after_exception members_of signatures_of
+unfolding section_then read_after_exception members_of signatures_of
 through_exception C x y phase header (Done lines at rest) = refl
 through_exception C x y phase header (Short lines at outer leaf) = refl
 through_exception C x y phase header (Fault lines at why T) = refl
@@ -45,7 +45,7 @@ through_exception C x y phase header (Fault lines at why T) = refl
 module _ (C : Table) (a b : Answers) (phase : Phase) (number : ℕ) (header s : List ℕ) where
   -- the two answers agree
   stands_same : (d : Decoder) (p : Part) → a number ≡ b number →
-      Stands C a phase number header s d p → Stands C b phase number header s d p
+      PartFollows C a phase number header s d p → PartFollows C b phase number header s d p
   stands_same d (parts.Typed section) e h = search (arith)
   stands_same d (parts.Padding body_type_id) e h = search (arith)
   stands_same d (parts.Rest r) e h = search (arith)
@@ -85,7 +85,7 @@ module _ (C : Table) (a b : Answers) (phase : Phase) (number : ℕ) (header s : 
       go sections.Body d' k none' = search (arith)
 
   stands_new : (d : Decoder) (p : Part) → header_noted phase header s ≡ None →
-      Stands C a phase number header s d p → Stands C b phase number header s d p
+      PartFollows C a phase number header s d p → PartFollows C b phase number header s d p
   stands_new d (parts.Typed section) none h = decodes_new section d none h
   stands_new d (parts.Padding body_type_id) none h = search (arith, unended_agree)
   stands_new d (parts.Rest r) none h = search (arith, unended_agree)

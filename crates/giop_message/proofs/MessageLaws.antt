@@ -11,9 +11,9 @@ use Rattle.giop_message.specs.declared.message.Message.{Message as MessageValue}
 use Rattle.giop_message.specs.MessageReader.{HasOnlyValuesInId}
 use Rattle.giop_message.specs.Headers.{minor, kind, order}
 use Rattle.giop_message.specs.Signatures.{Answer, Answers, signatures_of}
-use Rattle.giop_message.specs.Messages.{message, message_lines, stage_of}
+use Rattle.giop_message.specs.Messages.{read_message, message_lines, stage_of}
 use Rattle.giop_message.specs.ReaderOfTable.{first_request_id, message_reader, is_over}
-use Rattle.giop_message.specs.RequestId.{request_id_said}
+use Rattle.giop_message.specs.RequestId.{request_id_timed_line}
 use Rattle.giop_message.proofs.AlikeHeaders.{begins_in_each}
 use Rattle.giop_message.specs.MessageState.{Follows}
 use Rattle.giop_message.proofs.Named as named
@@ -46,14 +46,14 @@ pub use Rattle.giop_message.proofs.Phased.{message_phased, ends_phased, lines_ph
 pub is_named : (C : Table) (answers : Answers) → HasOnlyValuesInId (message_reader C answers)
 unfolding signatures_of
 is_named C answers = named.is_named (λ phase number. signatures_of C (answers number) phase)
-    (λ phase number. refl) (λ phase number. named.has_ids C (answers number) phase)
+    (λ phase number. refl) (λ phase number. named.signatures_have_ids C (answers number) phase)
 
 -- If a header begins with its request id in version 1, it does so with each table. The id is the
 -- number of the first four octets.
 pub id_is_said : (C : Table) (answer : Answer) (phase : Phase) (header : List ℕ) (T : Ty) →
     header_type 1 (minor header) (kind header) ≡ Some T → BeginsWithId T →
     phase 12 % 4 ≡ 0 → (a b c d : ℕ) (xs : List ℕ) → first_request_id
-    (message_lines (message (signatures_of C answer phase) header
+    (message_lines (read_message (signatures_of C answer phase) header
     (a ∷ b ∷ c ∷ d ∷ xs))) ≡ Some (num (order header) (a ∷ b ∷ c ∷ d ∷ []))
 unfolding signatures_of
 id_is_said C answer phase header T found begins even =
@@ -73,7 +73,7 @@ module _ (C : Table) (answers : Answers) (phase : Phase) (number : ℕ) (header 
       each.1 each.2
 
   pub four_said : (a b c d : ℕ) → (message_reader C answers).reads phase number header
-      (a ∷ b ∷ c ∷ d ∷ []) ≡ request_id_said (num (order header) (a ∷ b ∷ c ∷ d ∷ [])) ∷ []
+      (a ∷ b ∷ c ∷ d ∷ []) ≡ request_id_timed_line (num (order header) (a ∷ b ∷ c ∷ d ∷ [])) ∷ []
   unfolding signatures_of
   four_said =
       let each = begins_in_each C.version (minor header) (kind header) T found begins in
@@ -83,5 +83,5 @@ module _ (C : Table) (answers : Answers) (phase : Phase) (number : ℕ) (header 
 pub follows_goes : (C : Table) (answers : Answers) (phase : Phase) (number : ℕ) (header : List ℕ)
     (m : MessageValue)
     (s : List ℕ) → Follows C answers phase number header m s →
-    is_over (stage_of (message (signatures_of C (answers number) phase) header s)) ≡ false
+    is_over (stage_of (read_message (signatures_of C (answers number) phase) header s)) ≡ false
 follows_goes C answers phase number header m s f = followings.follows_goes f

@@ -5,16 +5,16 @@ use Rattle.std.proofs.Math.Seq.{drop-append_seam}
 use Rattle.std.proofs.lemmas.List.Concat.{flat_map-append}
 use Rattle.giop_print.specs.declared.path.Root.{Root}
 use Rattle.giop_decode.specs.ReadResult.{ValueAt, Read, Done, Short, Fault, lines_of}
-use Rattle.giop_decode.specs.ReadingSteps.{IsOctetResult, OneAt}
-use Rattle.giop_decode.specs.Noted.{Noted, note, ends_operation, is_header_root}
+use Rattle.giop_decode.specs.ReadingSteps.{IsOctetResult, AtMostOneAt}
+use Rattle.giop_decode.specs.Noted.{Noted, note_line, ends_operation, is_header_root}
 use Rattle.giop_decode.specs.Spelling.{line_text, lines_text}
 use Rattle.giop_message.specs.Signatures.{Signatures}
-use Rattle.giop_message.specs.Messages.{Calling, Said, ValueLine, FaultLine, LineAt, line_at, calls, section_lines, MessageReading, ReadTo, with_front, message, message_lines, stage_of}
+use Rattle.giop_message.specs.Messages.{CallSource, Said, ValueLine, FaultLine, LineAt, line_at, call_lines_after, section_lines, MessageReading, ReadTo, with_front, read_message, message_lines, stage_of}
 use Rattle.giop_message.specs.ReaderOfTable.{line_class_of, text_of}
-use Rattle.giop_message.specs.MessageState.{message_line_text, message_lines_text, due}
+use Rattle.giop_message.specs.MessageState.{message_line_text, message_lines_text, more_lines}
 use Rattle.giop_message.specs.MessageSteps.{fault_text}
-use Rattle.giop_message.proofs.Causal.{Silent}
-use Rattle.giop_message.proofs.LastParts.{CallsNone}
+use Rattle.giop_message.proofs.Causal.{HasNoLinesAt}
+use Rattle.giop_message.proofs.LastParts.{NoCallIfFaulted}
 use Rattle.giop_message.proofs.StepLines.{one_of}
 use Rattle.giop_message.proofs.Spelling.{said_is_line}
 
@@ -27,22 +27,22 @@ pub stage_front : (front : Said) (m : MessageReading) → stage_of (with_front f
 unfolding stage_of with_front
 stage_front front (ReadTo said at stage) = refl
 
-pub told_silent : (n : ℕ) (m : MessageReading) → Silent n m → message_lines m ≡ []
+pub told_silent : (n : ℕ) (m : MessageReading) → HasNoLinesAt n m → message_lines m ≡ []
 unfolding message_lines
 told_silent n (ReadTo said at stage) h = h.0
 
 -- the lines of more octets are those after the lines so far
 pub due_is : (S : Signatures) (header s more : List ℕ) (before : Said) (m n : MessageReading) →
-    message S header s ≡ m →
-    message S header (s ++ more) ≡ with_front before n → message_lines m ≡ before.lines →
-    due S header s more ≡ message_lines n
-unfolding due
+    read_message S header s ≡ m →
+    read_message S header (s ++ more) ≡ with_front before n → message_lines m ≡ before.lines →
+    more_lines S header s more ≡ message_lines n
+unfolding more_lines
 due_is S header s more before m n is now same = search (arith, told_front, drop-append_seam)
 
 -- the line of a fault, which comes after the others
-abbrev pub wrongs : Read → List LineAt
-wrongs (Fault lines at why T) = line_at at (FaultLine why) ∷ []
-wrongs _ = []
+abbrev pub fault_lines_of : (reading : Read) → List LineAt
+fault_lines_of (Fault lines at why T) = line_at at (FaultLine why) ∷ []
+fault_lines_of _ = []
 
 -- ---- the text
 
@@ -53,9 +53,10 @@ unfolding message_lines_text
 text_both number place offset xs ys = search (arith, flat_map-append)
 
 -- the call line of the first of these lines
-abbrev pub first_call : Root → Calling → Noted → List ValueAt → List LineAt
+abbrev pub first_call : (root : Root) (is : CallSource) (noted : Noted) (lines : List ValueAt) →
+    List LineAt
 first_call root is h [] = []
-first_call root is h (l ∷ ls) = calls is l (note (is_header_root root) h l)
+first_call root is h (l ∷ ls) = call_lines_after is l (note_line (is_header_root root) h l)
 
 numbered_lines : (number place offset at : ℕ) (root : Root) (l : ValueAt) →
     message_lines_text number place offset (line_at at (ValueLine root l.path l.value) ∷ [])
@@ -63,15 +64,15 @@ numbered_lines : (number place offset at : ℕ) (root : Root) (l : ValueAt) →
 unfolding message_lines_text message_line_text line_class_of line_at
 numbered_lines number place offset at root l = search (arith, append-nil, said_is_line)
 
-section_lines_text : (number place offset n : ℕ) (root : Root) (is : Calling) (h : Noted)
+section_lines_text : (number place offset n : ℕ) (root : Root) (is : CallSource) (h : Noted)
     (lines : List ValueAt) →
-    OneAt n lines → message_lines_text number place offset (section_lines root is h lines)
+    AtMostOneAt n lines → message_lines_text number place offset (section_lines root is h lines)
     ≡ lines_text number root lines ++ message_lines_text number place offset
     (first_call root is h lines)
 unfolding section_lines lines_text
 section_lines_text number place offset n root is h [] one = refl
 section_lines_text number place offset n root is h (l ∷ []) one =
-    let called = calls is l (note (is_header_root root) h l) in
+    let called = call_lines_after is l (note_line (is_header_root root) h l) in
     ap (message_lines_text number place offset)
     (append-nil (line_at l.at (ValueLine root l.path l.value) ∷ called))
     ∙ (text_both number place offset (line_at l.at (ValueLine root l.path l.value) ∷ []) called
@@ -81,23 +82,23 @@ section_lines_text number place offset n root is h (l ∷ []) one =
 section_lines_text number place offset n root is h (l ∷ l' ∷ ls) one = absurd one
 
 wrongs_text : (number place n : ℕ) (st : Read) → IsOctetResult (n + 1) st →
-    message_lines_text number place n (wrongs st) ≡ fault_text number (place + 1) st
+    message_lines_text number place n (fault_lines_of st) ≡ fault_text number (place + 1) st
 unfolding message_lines_text message_line_text line_class_of text_of line_at
 wrongs_text number place n (Fault lines at why T) now = search (arith, append-nil)
 wrongs_text number place n _ now = refl
 
 -- if no line ends an operation, there is no call
-pub no_first : (root : Root) (is : Calling) (h : Noted) (lines : List ValueAt) →
+pub no_first : (root : Root) (is : CallSource) (h : Noted) (lines : List ValueAt) →
     Each (λ l. ends_operation is.is_request l ≡ false) lines → first_call root is h lines ≡ []
-unfolding calls
+unfolding call_lines_after
 no_first root is h [] each = refl
 no_first root is h (l ∷ ls) each = rw each.0 refl
 
 -- An octet with a fault has no call, so it makes no difference if the text of the fault comes
 -- before the text of a call.
-swapped : (number place n : ℕ) (root : Root) (is : Calling) (h : Noted) (st : Read) →
+swapped : (number place n : ℕ) (root : Root) (is : CallSource) (h : Noted) (st : Read) →
     IsOctetResult (n + 1) st →
-    CallsNone is.is_request st → lines_text number root (lines_of st)
+    NoCallIfFaulted is.is_request st → lines_text number root (lines_of st)
     ++ (message_lines_text number place n (first_call root is h (lines_of st))
     ++ fault_text number (place + 1) st)
     ≡ (lines_text number root (lines_of st) ++ fault_text number (place + 1) st)
@@ -111,9 +112,9 @@ swapped number place n root is h (Fault lines at why T) now none = search (
   append-nil,
 )
 
-pub step_text : (number place n : ℕ) (root : Root) (is : Calling) (h : Noted) (st : Read) →
-    IsOctetResult (n + 1) st → CallsNone is.is_request st →
-    message_lines_text number place n (section_lines root is h (lines_of st) ++ wrongs st)
+pub step_text : (number place n : ℕ) (root : Root) (is : CallSource) (h : Noted) (st : Read) →
+    IsOctetResult (n + 1) st → NoCallIfFaulted is.is_request st →
+    message_lines_text number place n (section_lines root is h (lines_of st) ++ fault_lines_of st)
     ≡ (lines_text number root (lines_of st) ++ fault_text number (place + 1) st)
     ++ message_lines_text number place n (first_call root is h (lines_of st))
 step_text number place n root is h st now none = search (

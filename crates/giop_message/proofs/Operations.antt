@@ -1,17 +1,17 @@
 -- If a line ends a string, as the line of an operation does, no other string has begun.
 use Rattle.std.proofs.Common.{◌≡◌, ℕ, zero, suc, ◌+◌, ◌-◌, ◌⊎◌, inl, inr, false, List, [], ◌∷◌, ◌++◌, refl, sym, subst, ◌∙◌, arith, lit<}
 use Rattle.std.specs.List.{AllByRecursion as Each}
-use Rattle.giop_sig.specs.Types.{Encapsulation, Ty, Single, Struct, Union, Array, part_of, Led, Hearing, Told, Untold, Sequel, Then}
+use Rattle.giop_sig.specs.Types.{Encapsulation, Ty, Single, Struct, Union, Array, part_of, Led, TypeInference, InferredType, Untold, Sequel, Then}
 use Rattle.giop_decode.specs.declared.progress.ValueFault.TheVariants as kinds
-use Rattle.giop_decode.specs.ReadResult.{Coding, PathSegment, Name, Index, Held, OpenPart, Part, Member, Inside, Leaf, Read, Done, Short, Fault, followed, within, Telling}
+use Rattle.giop_decode.specs.ReadResult.{Coding, PathSegment, Name, Index, Held, OpenPart, Part, Member, Inside, Leaf, Read, Done, Short, Fault, read_then, within, Telling}
 use Rattle.giop_decode.specs.Pieces.{content, full_pieces}
-use Rattle.giop_decode.specs.Reading.{read, parts_from, enclosed, rest_of, following, led, led_segment, none_left, rooted}
+use Rattle.giop_decode.specs.Reading.{read, parts_from, enclosed, encapsulation_rest, read_sequel, led, led_segment, none_left, done_if_untyped}
 use Rattle.giop_decode.specs.ReadingSteps.{IsEmptyResult, IsOctetResult, part_at, segment_of, step, after_told}
-use Rattle.giop_sig.specs.Hearings.{hearing_in}
+use Rattle.giop_sig.specs.Hearings.{inference_in}
 use Rattle.giop_decode.specs.Fits.{FitsIn, IsEncapsulation}
 use Rattle.giop_decode.specs.Noted.{ends_in_string}
 use Rattle.giop_decode.proofs.ReadingLaws.{read_quiet, cut_inside, front_inside, now_within, block_waits, width_pos, number_none, part_quiet, step_now}
-use Rattle.giop_message.proofs.StepLines.{NoEnds, Firm, leaf_says}
+use Rattle.giop_message.proofs.StepLines.{EndsNoText, EndsNoTextOrGoesOn, leaf_says}
 
 -- ---- if there are no octets, no string begins
 
@@ -21,7 +21,7 @@ mute_within place r = refl
 
 mute_followed : (n : ℕ) (r : Read) (next : ℕ → List ℕ → Read) → IsEmptyResult n r →
     ends_in_string r ≡ false →
-    ends_in_string (next n []) ≡ false → ends_in_string (followed r next) ≡ false
+    ends_in_string (next n []) ≡ false → ends_in_string (read_then r next) ≡ false
 mute_followed n (Done lines at rest) next quiet h k = search (arith, front_inside)
 mute_followed n r next quiet h k = h
 
@@ -36,7 +36,7 @@ mute_parts n part quiet h (suc more) i = search (
       more (suc i),
 )
 
-mute_led : (n : ℕ) (T : Ty) (g : Hearing) (part : ℕ → ℕ → List ℕ → Read) (r : Read) →
+mute_led : (n : ℕ) (T : Ty) (g : TypeInference) (part : ℕ → ℕ → List ℕ → Read) (r : Read) →
     IsEmptyResult n r → ends_in_string r ≡ false → ends_in_string (led T g Untold part r) ≡ false
 mute_led n T g part (Done lines at rest) quiet h = rw quiet.0 refl
 mute_led n T g part (Short lines at outer leaf) quiet h = h
@@ -75,33 +75,34 @@ part_mute coding path T count n i = search (arith, mute_within, read_mute)
 
 -- ---- no line ends a string, or no string has begun
 
-abbrev pub Closed : Read → Type 0
-Closed r = NoEnds r ⊎ (ends_in_string r ≡ false)
+abbrev pub EndsNoString : (reading : Read) → Type 0
+EndsNoString r = EndsNoText r ⊎ (ends_in_string r ≡ false)
 
-closed_firm : (r : Read) → Firm r → Closed r
+closed_firm : (r : Read) → EndsNoTextOrGoesOn r → EndsNoString r
 closed_firm r (inl h) = inl h
 closed_firm r (inr h) = inr h.0
 
 -- ---- the parts around the innermost one
 
-closed_within : (place : OpenPart) (r : Read) → Closed r → Closed (within place r)
+closed_within : (place : OpenPart) (r : Read) → EndsNoString r → EndsNoString (within place r)
 closed_within place (Done lines at rest) h = h
 closed_within place r h = h
 
 closed_followed : (n : ℕ) (r : Read) (next : ℕ → List ℕ → Read) → IsOctetResult n r →
-    ends_in_string (next n []) ≡ false → Closed r → Closed (followed r next)
+    ends_in_string (next n []) ≡ false → EndsNoString r → EndsNoString (read_then r next)
 closed_followed n (Done lines at rest) next now mute h = search (arith, front_inside)
 closed_followed n r next now mute h = h
 
 -- an encapsulation that has begun is one by its type
-abbrev pub Holds : OpenPart → Type 0
-Holds (Inside T inner end) = IsEncapsulation T
-Holds place = Unit {0}
+abbrev pub IsEncapsulationIfInside : (place : OpenPart) → Type 0
+IsEncapsulationIfInside (Inside T inner end) = IsEncapsulation T
+IsEncapsulationIfInside place = Unit {0}
 
-abbrev pub AllHold : List OpenPart → Type 0
-AllHold outer = Each Holds outer
+abbrev pub AreEncapsulationsIfInside : (outer : List OpenPart) → Type 0
+AreEncapsulationsIfInside outer = Each IsEncapsulationIfInside outer
 
-pub fits_hold : (outer : List OpenPart) (T : Ty) (leaf : Leaf) → FitsIn T outer leaf → AllHold outer
+pub fits_hold : (outer : List OpenPart) (T : Ty) (leaf : Leaf) → FitsIn T outer leaf →
+    AreEncapsulationsIfInside outer
 fits_hold [] T leaf fits = tt
 fits_hold (Part U i count ∷ outer) T leaf fits = (tt, fits_hold outer (part_of T i) leaf fits.1)
 fits_hold (Member U i ∷ outer) T leaf fits = (tt, fits_hold outer (part_of T i) leaf fits.1)
@@ -111,7 +112,7 @@ fits_hold (Inside U inner end ∷ outer) T leaf fits =
 
 -- what is left of an encapsulation begins no string
 rest_mute : (path : List PathSegment) (T : Ty) (k n : ℕ) → IsEncapsulation T →
-    ends_in_string (rest_of path T k n []) ≡ false
+    ends_in_string (encapsulation_rest path T k n []) ≡ false
 rest_mute path (Encapsulation T) zero n is = refl
 rest_mute path (Encapsulation T) (suc k) n is = go (full_pieces (suc k))
   where
@@ -121,8 +122,8 @@ rest_mute path (Encapsulation T) (suc k) n is = go (full_pieces (suc k))
 rest_mute path T k n is = absurd is
 
 closed_enclosed : (n : ℕ) (path : List PathSegment) (T : Ty) (inner : Coding) (end : ℕ) (r : Read) →
-    IsEncapsulation T → IsOctetResult n r → Closed r →
-    Closed (enclosed path T inner end none_left r [])
+    IsEncapsulation T → IsOctetResult n r → EndsNoString r →
+    EndsNoString (enclosed path T inner end none_left r [])
 closed_enclosed n path T inner end (Done lines at rest) is now h = search (
   arith,
   front_inside,
@@ -138,14 +139,15 @@ closed_enclosed n path T inner end (Fault lines at why S) is now h = h
 
 following_mute : (n : ℕ) (T : Ty) (what : Sequel) (part : ℕ → ℕ → List ℕ → Read) →
     ((i : ℕ) → ends_in_string (part i n []) ≡ false) →
-    ends_in_string (following T what part n []) ≡ false
+    ends_in_string (read_sequel T what part n []) ≡ false
 following_mute n T (Then i) part each = each i
 following_mute n T what part each = refl
 
-closed_led : (n : ℕ) (T : Ty) (g : Hearing) (told : Told) (part : ℕ → ℕ → List ℕ → Read)
+closed_led : (n : ℕ) (T : Ty) (g : TypeInference) (told : InferredType)
+    (part : ℕ → ℕ → List ℕ → Read)
     (r : Read) →
-    ((i : ℕ) → ends_in_string (part i n []) ≡ false) → IsOctetResult n r → Closed r →
-    Closed (led T g told part r)
+    ((i : ℕ) → ends_in_string (part i n []) ≡ false) → IsOctetResult n r → EndsNoString r →
+    EndsNoString (led T g told part r)
 closed_led n T g told part (Done lines at rest) each now h = search (
   arith,
   front_inside,
@@ -156,7 +158,7 @@ closed_led n T g told part (Fault lines at why S) each now h = h
 
 -- If a line ends a string, no other string has begun.
 pub step_closed : (coding : Coding) (path : List PathSegment) (outer : List OpenPart) (leaf : Leaf)
-    (at b : ℕ) → AllHold outer → Closed (step coding path outer leaf at b)
+    (at b : ℕ) → AreEncapsulationsIfInside outer → EndsNoString (step coding path outer leaf at b)
 step_closed coding path [] leaf at b hold = search (arith, closed_firm, leaf_says)
 step_closed coding path (Inside T inner end ∷ outer) leaf at b hold =
     let r = step inner (path ++ Held ∷ []) outer leaf at b in
@@ -165,7 +167,7 @@ step_closed coding path (Inside T inner end ∷ outer) leaf at b hold =
     (step_closed inner (path ++ Held ∷ []) outer leaf at b hold.1)
 step_closed coding path (Telling T told ∷ outer) leaf at b hold =
     let inner = step coding (path ++ segment_of T 0 ∷ []) outer leaf at b in
-    closed_led (at + 1) T (hearing_in T) told (after_told coding path T) inner
+    closed_led (at + 1) T (inference_in T) told (after_told coding path T) inner
     (λ i. mute_within (Member T (suc i)) _
     ∙ read_mute coding (path ++ segment_of T (suc i) ∷ []) (part_of T (suc i)) (at + 1))
     (step_now coding (path ++ segment_of T 0 ∷ []) outer leaf at b)
@@ -185,7 +187,7 @@ step_closed coding path (Member T i ∷ outer) leaf at b hold =
     closed_within (Member T i) (step coding (path ++ segment_of T i ∷ []) outer leaf at b)
     (step_closed coding (path ++ segment_of T i ∷ []) outer leaf at b hold.1)
 
-pub closed_root : (r : Read) → Closed r → Closed (rooted none_left r)
+pub closed_root : (r : Read) → EndsNoString r → EndsNoString (done_if_untyped none_left r)
 closed_root (Fault lines at kinds.Untyped S) (inl h) = inl h
 closed_root (Fault lines at kinds.Untyped S) (inr h) = inr refl
 closed_root (Fault lines at why S) h = h

@@ -9,25 +9,25 @@ use Rattle.giop_decode.specs.ReadResult.{Coding, ValueAt, OpenPart, Leaf, Read, 
 use Rattle.giop_decode.specs.Reading.{reading as whole_of}
 use Rattle.giop_decode.specs.ReadingSteps as decoder
 use Rattle.giop_decode.specs.ReadingSteps.{IsOctetResult}
-use Rattle.giop_decode.specs.Noted.{Noted, nothing_noted, noted, is_header_root, names_operation}
-use Rattle.giop_decode.specs.Runs.{Answers}
+use Rattle.giop_decode.specs.Noted.{Noted, nothing_noted, note_lines, is_header_root, names_operation}
+use Rattle.giop_decode.specs.Runs.{IsAnswerToOctet}
 use Rattle.giop_decode.specs.DecoderState as decoders
 use Rattle.giop_decode.specs.Spelling.{lines_text}
 use Rattle.giop_decode.proofs.ReadingLaws.{length_one_more, lines_front, reading_goes, root_now}
 use Rattle.giop_sig.specs.Types.{Ty}
 use Rattle.giop_message.specs.declared.part.Section.{Section}
 use Rattle.giop_message.specs.Signatures.{Signatures}
-use Rattle.giop_message.specs.Messages.{coding_of, Calling, Said, section_lines, MessageReading, with_front, section_then, message, message_lines, root_of, calling, section_and_rest}
-use Rattle.giop_message.specs.MessageState.{message_lines_text, due, due_text, IsFirst}
+use Rattle.giop_message.specs.Messages.{coding_of, CallSource, Said, section_lines, MessageReading, with_front, section_then, read_message, message_lines, root_of, section_call_source, section_and_rest}
+use Rattle.giop_message.specs.MessageState.{message_lines_text, more_lines, more_lines_text, IsFirstIfHeader}
 use Rattle.giop_message.specs.MessageSteps.{fault_text}
 use Rattle.giop_message.proofs.Going.{front_twice, front_advance, passes_front, through_goes, after_goes, message_goes}
 use Rattle.giop_message.proofs.Causal.{after_silent}
-use Rattle.giop_message.proofs.LastParts.{CallsNone, root_none}
-use Rattle.giop_message.proofs.Octets.{told_front, told_silent, due_is, wrongs, first_call, step_text}
+use Rattle.giop_message.proofs.LastParts.{NoCallIfFaulted, root_none}
+use Rattle.giop_message.proofs.Octets.{told_front, told_silent, due_is, fault_lines_of, first_call, step_text}
 
 -- A section that a message has begun: the version of the message's signature file, the message's
 -- number and header, the section and its type, and the lines and octets before it.
-pub record Begun : Type 0 where
+pub record BegunSection : Type 0 where
   pub S : Signatures
   pub version : ℕ
   pub number : ℕ
@@ -37,7 +37,7 @@ pub record Begun : Type 0 where
   pub before : Said
   pub front : List ℕ
 
-module _ (w : Begun) where
+module _ (w : BegunSection) where
   open w use {S, version, header, section, T, before, front}
 
   -- the offset at which the section begins
@@ -45,24 +45,24 @@ module _ (w : Begun) where
   start = 12 + length front
 
   -- the reading of the section's octets
-  abbrev pub reading : List ℕ → Read
+  abbrev pub reading : (octets : List ℕ) → Read
   reading octets = whole_of (coding_of S header) [] T start octets
 
   -- whether the next octet ends an operation
-  abbrev pub is_named : List ℕ → ℕ → Bool
+  abbrev pub is_named : (octets : List ℕ) (b : ℕ) → Bool
   is_named octets b = names_operation (is_header_root (root_of section))
       (decoders.added_lines (coding_of S header) T start octets b)
 
   -- the message, from this reading of the section
-  abbrev pub comes : Read → MessageReading
-  comes r = with_front before (section_and_rest S header section nothing_noted r)
+  abbrev pub message_by_reading : (reading : Read) → MessageReading
+  message_by_reading r = with_front before (section_and_rest S header section nothing_noted r)
 
   -- A message that is in the section after these octets of it: what the reading of the octets has
   -- begun and not ended.
-  pub record Inside (s octets : List ℕ) : Type 0 where
+  pub record IsInsideSection (s octets : List ℕ) : Type 0 where
     pub since : s ≡ front ++ octets
-    pub is : message S header s ≡ comes (reading octets)
-    pub first : IsFirst version header section T before front
+    pub is : read_message S header s ≡ message_by_reading (reading octets)
+    pub first : IsFirstIfHeader version header section T before front
     pub lines : List ValueAt
     pub outer : List OpenPart
     pub leaf : Leaf
@@ -71,7 +71,7 @@ module _ (w : Begun) where
 -- ---- a section, from the reading of its octets
 
 -- if a reading is done, it has read all octets
-abbrev pub ReadsAll : Read → Type 0
+abbrev pub ReadsAll : (reading : Read) → Type 0
 ReadsAll (Done lines at rest) = rest ≡ []
 ReadsAll r = Unit {0}
 
@@ -84,7 +84,8 @@ now_all n r now = tt
 pub passed_section_lines : (S : Signatures) (header : List ℕ) (section : Section) (h : Noted)
     (r : Read) →
     ReadsAll r → message_lines (section_and_rest S header section h r)
-    ≡ section_lines (root_of section) (calling S header section) h (lines_of r) ++ wrongs r
+    ≡ section_lines (root_of section) (section_call_source S header section) h (lines_of r)
+    ++ fault_lines_of r
 unfolding section_then message_lines
 passed_section_lines S header section h (Done lines at rest) all = search (
   arith,
@@ -99,7 +100,8 @@ short_told : (S : Signatures) (header : List ℕ) (section : Section) (before : 
     (lines : List ValueAt) (at : ℕ) (outer : List OpenPart) (leaf : Leaf) →
     message_lines (with_front before (section_and_rest S header section nothing_noted
     (Short lines at outer leaf)))
-    ≡ before.lines ++ section_lines (root_of section) (calling S header section) nothing_noted lines
+    ≡ before.lines ++ section_lines (root_of section) (section_call_source S header section)
+    nothing_noted lines
 unfolding section_then with_front message_lines
 short_told S header section before lines at outer leaf = refl
 
@@ -109,15 +111,15 @@ fault_front number place front (Done lines at rest) = refl
 fault_front number place front r = refl
 
 -- if a reading is done, it is at this offset
-abbrev pub EndsAt : ℕ → Read → Type 0
-EndsAt n (Done lines at rest) = at ≡ n
-EndsAt n r = Unit {0}
+abbrev pub IsDoneAt : (n : ℕ) (reading : Read) → Type 0
+IsDoneAt n (Done lines at rest) = at ≡ n
+IsDoneAt n r = Unit {0}
 
 offset_is : (n : ℕ) (r st : Read) (lines : List ValueAt) → r ≡ ReadResult.with_front lines st →
     IsOctetResult n st →
-    EndsAt n r
+    IsDoneAt n r
 offset_is n r (Done ls at rest) lines e now = search (arith)
-offset_is n r q lines e now = subst (EndsAt n) (sym e) tt
+offset_is n r q lines e now = subst (IsDoneAt n) (sym e) tt
 
 -- what a reading that goes on has begun and not ended at this offset
 short_by : (n end : ℕ) (named : Bool) (r st : Read) (lines : List ValueAt) →
@@ -129,9 +131,10 @@ short_by n end named r _ lines e now answer = search (arith)
 
 -- ---- an octet of the section
 
-pub goes_one : (w : Begun) (s octets : List ℕ) →
-    message w.S w.header s ≡ comes w (reading w octets) →
-    (b : ℕ) → message w.S w.header (s ++ b ∷ []) ≡ comes w (reading w (octets ++ b ∷ []))
+pub goes_one : (w : BegunSection) (s octets : List ℕ) →
+    read_message w.S w.header s ≡ message_by_reading w (reading w octets) →
+    (b : ℕ) → read_message w.S w.header (s ++ b ∷ []) ≡ message_by_reading w (reading w (octets ++ b
+    ∷ []))
 goes_one w s octets is b = search (
   arith,
   message_goes,
@@ -141,14 +144,14 @@ goes_one w s octets is b = search (
   reading_goes,
 )
 
-module _ (w : Begun) (s octets : List ℕ) (i : Inside w s octets) (b : ℕ) where
+module _ (w : BegunSection) (s octets : List ℕ) (i : IsInsideSection w s octets) (b : ℕ) where
   open w use {S, number, header, section, T, before, front}
 
   abbrev R : Root
   R = root_of section
 
-  abbrev Is : Calling
-  Is = calling S header section
+  abbrev Is : CallSource
+  Is = section_call_source S header section
 
   abbrev coding : Coding
   coding = coding_of S header
@@ -164,7 +167,7 @@ module _ (w : Begun) (s octets : List ℕ) (i : Inside w s octets) (b : ℕ) whe
   Added = decoder.root_step coding [] i.outer i.leaf Here b
 
   abbrev pub noted_before : Noted
-  noted_before = noted (is_header_root R) nothing_noted i.lines
+  noted_before = note_lines (is_header_root R) nothing_noted i.lines
 
   pub next_is : Next ≡ ReadResult.with_front i.lines Added
   next_is = search (arith, reading_goes)
@@ -172,17 +175,17 @@ module _ (w : Begun) (s octets : List ℕ) (i : Inside w s octets) (b : ℕ) whe
   pub added_now : IsOctetResult (Here + 1) Added
   added_now = search (arith, root_now)
 
-  pub added_none : CallsNone Is.is_request Added
+  pub added_none : NoCallIfFaulted Is.is_request Added
   added_none = search (arith, root_none)
 
   pub lines_due : decoders.added_lines (coding_of S header) T (start w) octets b ≡ lines_of Added
   lines_due = search (arith, next_is, lines_front, drop-append_seam)
 
-  pub goes_more : message S header (s ++ b ∷ []) ≡ comes w Next
+  pub goes_more : read_message S header (s ++ b ∷ []) ≡ message_by_reading w Next
   goes_more = goes_one w s octets i.is b
 
-  due_here : due S header s (b ∷ []) ≡ section_lines R Is noted_before (lines_of Added)
-      ++ wrongs Added
+  due_here : more_lines S header s (b ∷ []) ≡ section_lines R Is noted_before (lines_of Added)
+      ++ fault_lines_of Added
   due_here = search (
     arith,
     due_is,
@@ -200,12 +203,12 @@ module _ (w : Begun) (s octets : List ℕ) (i : Inside w s octets) (b : ℕ) whe
   here_is = search (arith, length-append)
 
   -- the text of the octet: its line or its fault, and its call
-  pub text_here : (place : ℕ) → due_text S number place header s (b ∷ []) ≡
+  pub text_here : (place : ℕ) → more_lines_text S number place header s (b ∷ []) ≡
       (lines_text number R (decoders.added_lines (coding_of S header) T (start w) octets b)
       ++ fault_text number (place + 1) Next)
       ++ message_lines_text number place (12 + length s)
       (first_call R Is noted_before (lines_of Added))
-  unfolding due_text
+  unfolding more_lines_text
   text_here place = search (
     arith,
     here_is,
@@ -219,8 +222,8 @@ module _ (w : Begun) (s octets : List ℕ) (i : Inside w s octets) (b : ℕ) whe
   )
 
   -- the section goes on after the octet
-  pub inside_on : Answers (coding_of S header) T (start w) R octets b progress.More →
-      Inside w (s ++ b ∷ []) (octets ++ b ∷ [])
+  pub inside_on : IsAnswerToOctet (coding_of S header) T (start w) R octets b progress.More →
+      IsInsideSection w (s ++ b ∷ []) (octets ++ b ∷ [])
   inside_on answer =
       let g = short_by (Here + 1) (start w + length (octets ++ b ∷ [])) (is_named w octets b) Next
       Added i.lines next_is added_now answer in
@@ -237,5 +240,5 @@ module _ (w : Begun) (s octets : List ℕ) (i : Inside w s octets) (b : ℕ) whe
       }
 
   -- the section ends with the octet
-  pub ends_here : EndsAt (12 + length (s ++ b ∷ [])) Next
+  pub ends_here : IsDoneAt (12 + length (s ++ b ∷ [])) Next
   ends_here = search (arith, here_is, length_one_more, offset_is, next_is, added_now)

@@ -9,42 +9,42 @@ use Rattle.giop_sig.specs.Builtin.{builtin_table}
 use Rattle.giop_decode.specs.ReadResult as readings
 use Rattle.giop_decode.specs.ReadResult.{Coding, ValueAt, Read, Done, Short, Fault}
 use Rattle.giop_decode.specs.Reading.{reading}
-use Rattle.giop_decode.specs.ReadingSteps.{IsEmptyResult, IsOctetResult, root_advance, root_step}
+use Rattle.giop_decode.specs.ReadingSteps.{IsEmptyResult, IsOctetResult, root_after_octet, root_step}
 use Rattle.giop_decode.specs.Noted.{Noted, nothing_noted}
 use Rattle.giop_decode.proofs.ReadingLaws.{length_one_more, reading_goes, reading_phased, reading_quiet, root_now}
 use Rattle.giop_message.specs.declared.part.Section.{Section}
 use Rattle.giop_message.specs.declared.part.Section.TheVariants as sections
 use Rattle.giop_message.specs.Headers.{minor, kind}
 use Rattle.giop_message.specs.Phases.{Phase, AgreeBefore}
-use Rattle.giop_message.specs.MessageReader.{IsPhased}
+use Rattle.giop_message.specs.MessageReader.{UsesPhaseBeforeEnd}
 use Rattle.giop_message.specs.Signatures.{Signatures, Answer, Answers, signatures_of}
-use Rattle.giop_message.specs.Messages.{coding_of, no_calls, calling, Calling, BodyType, Untyped, Typed, UserException, SystemException, MessageReading, with_front, section_then, request_body, result_body, reply_body, locate_body, rest, typed, option_typed, members_of, after_exception, body, body_of, padded, is_aligned, after_header, of_header, message, after, section_and_rest}
+use Rattle.giop_message.specs.Messages.{coding_of, no_calls, section_call_source, CallSource, BodyType, Untyped, Typed, UserException, SystemException, MessageReading, with_front, section_then, request_body, result_body, reply_body, locate_body, read_rest, read_typed, read_typed_if_some, members_of, read_after_exception, read_body, body_of, read_padding_and_body, has_aligned_body, read_after_header, read_header_and_rest, read_message, read_after_section, section_and_rest}
 use Rattle.giop_message.specs.HeaderEnds.{marks, header_ends}
-use Rattle.giop_message.specs.ReaderOfTable.{message_reader, remarks_by, closes_by}
+use Rattle.giop_message.specs.ReaderOfTable.{message_reader, timed_lines_by, lines_of_close_by}
 use Rattle.giop_message.proofs.Causal.{grown}
 use Rattle.giop_message.proofs.Going.{padded_waits, padded_begins}
 
 -- ---- where a reading ends
 
 -- the reading has ended or goes on, and the octets after it end at this offset
-abbrev pub Ends : ℕ → Read → Type 0
-Ends end (Done lines at rest) = at + length rest ≡ end
-Ends end (Short lines at outer leaf) = at ≡ end
-Ends end (Fault lines at why T) = Unit {0}
+abbrev pub EndsAtOffset : (end : ℕ) (read : Read) → Type 0
+EndsAtOffset end (Done lines at rest) = at + length rest ≡ end
+EndsAtOffset end (Short lines at outer leaf) = at ≡ end
+EndsAtOffset end (Fault lines at why T) = Unit {0}
 
-none_ends : (n : ℕ) (r : Read) → IsEmptyResult n r → Ends n r
+none_ends : (n : ℕ) (r : Read) → IsEmptyResult n r → EndsAtOffset n r
 none_ends n (Done lines at rest) h = rw (h.1, h.2, add-zero) refl
 none_ends n (Short lines at outer leaf) h = h.1
 none_ends n (Fault lines at why T) h = tt
 
 now_ends : (n : ℕ) (front : List ValueAt) (r : Read) → IsOctetResult n r →
-    Ends n (readings.with_front front r)
+    EndsAtOffset n (readings.with_front front r)
 now_ends n front (Done lines at rest) h = rw (h.1, h.2, add-zero) refl
 now_ends n front (Short lines at outer leaf) h = h.1
 now_ends n front (Fault lines at why T) h = tt
 
-more_ends : (coding : Coding) (n b : ℕ) (r : Read) → Ends n r →
-    Ends (n + 1) (root_advance coding [] r b)
+more_ends : (coding : Coding) (n b : ℕ) (r : Read) → EndsAtOffset n r →
+    EndsAtOffset (n + 1) (root_after_octet coding [] r b)
 more_ends coding n b (Done lines at rest) h = omega (arith, length_one_more rest b, h)
 more_ends coding n b (Short lines at outer leaf) h =
     rw (← h) (now_ends (at + 1) lines (root_step coding [] outer leaf at b)
@@ -53,13 +53,13 @@ more_ends coding n b (Fault lines at why T) h = tt
 
 -- a reading ends with its octets
 pub reading_ends : (coding : Coding) (T : Ty) (at : ℕ) (s : List ℕ) →
-    Ends (at + length s) (reading coding [] T at s)
+    EndsAtOffset (at + length s) (reading coding [] T at s)
 reading_ends coding T at s =
-    grown (λ (xs : List ℕ). Ends (at + length xs) (reading coding [] T at xs)) more [] s
+    grown (λ (xs : List ℕ). EndsAtOffset (at + length xs) (reading coding [] T at xs)) more [] s
     (rw add-zero (none_ends at (reading coding [] T at []) (reading_quiet coding [] T at)))
   where
-    more : (xs : List ℕ) (b : ℕ) → Ends (at + length xs) (reading coding [] T at xs) →
-        Ends (at + length (xs ++ b ∷ [])) (reading coding [] T at (xs ++ b ∷ []))
+    more : (xs : List ℕ) (b : ℕ) → EndsAtOffset (at + length xs) (reading coding [] T at xs) →
+        EndsAtOffset (at + length (xs ++ b ∷ [])) (reading coding [] T at (xs ++ b ∷ []))
     more xs b h = rw (length_one_more xs b, reading_goes, ← add_assoc)
         (more_ends coding (at + length xs) b (reading coding [] T at xs) h)
 
@@ -71,7 +71,7 @@ module _ (S : Signatures) (other : Phase) (header : List ℕ) where
 
   module _ (end : ℕ) (agree : AgreeBefore end S.phase other) where
     -- octets that end there are read so by both phases
-    abbrev Alike : (ℕ → List ℕ → MessageReading) → (ℕ → List ℕ → MessageReading) → Type 0
+    abbrev Alike : (f g : ℕ → List ℕ → MessageReading) → Type 0
     Alike f g = (at : ℕ) (s : List ℕ) → at + length s ≡ end → f at s ≡ g at s
 
     same_reading : (T : Ty) (at : ℕ) (s : List ℕ) → at + length s ≡ end →
@@ -79,9 +79,9 @@ module _ (S : Signatures) (other : Phase) (header : List ℕ) where
     same_reading T at s e = reading_phased (coding_of S header) (coding_of Other header) [] T at s
         refl (rw e agree)
 
-    section_same : (section : Section) (is : Calling) (next onward : Noted → ℕ → List ℕ →
+    section_same : (section : Section) (is : CallSource) (next onward : Noted → ℕ → List ℕ →
         MessageReading) →
-        ((h : Noted) → Alike (next h) (onward h)) → (r : Read) → Ends end r →
+        ((h : Noted) → Alike (next h) (onward h)) → (r : Read) → EndsAtOffset end r →
         section_then section is next nothing_noted r
         ≡ section_then section is onward nothing_noted r
     unfolding section_then
@@ -90,7 +90,7 @@ module _ (S : Signatures) (other : Phase) (header : List ℕ) where
     section_same section is next onward each (Short lines at outer leaf) e = refl
     section_same section is next onward each (Fault lines at why T) e = refl
 
-    section_alike : (section : Section) (is : Calling)
+    section_alike : (section : Section) (is : CallSource)
         (next onward : Noted → ℕ → List ℕ → MessageReading) →
         ((h : Noted) → Alike (next h) (onward h)) → (T : Ty) →
         Alike (λ at s. section_then section is next nothing_noted
@@ -102,42 +102,44 @@ module _ (S : Signatures) (other : Phase) (header : List ℕ) where
         (rw (← e) (reading_ends (coding_of S header) T at s))
         ∙ ap (section_then section is onward nothing_noted) (same_reading T at s e)
 
-    rest_alike : (h : Noted) → Alike rest rest
+    rest_alike : (h : Noted) → Alike read_rest read_rest
     rest_alike h at s e = refl
 
     typed_alike : (T : Ty) →
-        Alike (typed (coding_of S header) T) (typed (coding_of Other header) T)
-    unfolding typed
-    typed_alike T = section_alike sections.Body no_calls (λ h. rest) (λ h. rest) rest_alike T
+        Alike (read_typed (coding_of S header) T) (read_typed (coding_of Other header) T)
+    unfolding read_typed
+    typed_alike T = section_alike sections.Body no_calls (λ h. read_rest)
+        (λ h. read_rest) rest_alike T
 
     option_alike : (found : Option Ty) →
-        Alike (option_typed (coding_of S header) found)
-        (option_typed (coding_of Other header) found)
-    unfolding option_typed
+        Alike (read_typed_if_some (coding_of S header) found)
+        (read_typed_if_some (coding_of Other header) found)
+    unfolding read_typed_if_some
     option_alike None at s e = refl
     option_alike (Some T) at s e = typed_alike T at s e
 
-    exception_alike : (h : Noted) → Alike (after_exception S header h)
-        (after_exception Other header h)
-    unfolding after_exception members_of
+    exception_alike : (h : Noted) → Alike (read_after_exception S header h)
+        (read_after_exception Other header h)
+    unfolding read_after_exception members_of
     exception_alike h = option_alike _
 
-    body_alike : (t : BodyType) → Alike (body S header t) (body Other header t)
-    unfolding body
+    body_alike : (t : BodyType) → Alike (read_body S header t) (read_body Other header t)
+    unfolding read_body
     body_alike Untyped at s e = refl
     body_alike (Typed T) at s e = typed_alike T at s e
     body_alike UserException at s e =
-        section_alike sections.Exception no_calls (after_exception S header)
-        (after_exception Other header) exception_alike S.exception_id at s e
+        section_alike sections.Exception no_calls (read_after_exception S header)
+        (read_after_exception Other header) exception_alike S.exception_id at s e
     body_alike SystemException at s e =
-        section_alike sections.SystemException no_calls (λ h. rest) (λ h. rest) rest_alike
+        section_alike sections.SystemException no_calls (λ h. read_rest) (λ h. read_rest) rest_alike
         S.system_exception at s e
 
-    padded_alike : (t : BodyType) → Alike (padded S header t) (padded Other header t)
+    padded_alike : (t : BodyType) → Alike (read_padding_and_body S header t)
+        (read_padding_and_body Other header t)
     padded_alike t at s e = go (cases_lt (length s) (padding at 8))
       where
         go : (length s < padding at 8) ⊎ (padding at 8 ≤ length s) →
-            padded S header t at s ≡ padded Other header t at s
+            read_padding_and_body S header t at s ≡ read_padding_and_body Other header t at s
         go (inl few) = padded_waits S header t at s few ∙ sym (padded_waits Other header t at s few)
         go (inr enough) =
             padded_begins S header t at s enough
@@ -145,20 +147,21 @@ module _ (S : Signatures) (other : Phase) (header : List ℕ) where
             (omega (arith, length-drop (padding at 8) s, enough, e))
             ∙ sym (padded_begins Other header t at s enough))
 
-    header_alike : (h : Noted) → Alike (after_header S header h) (after_header Other header h)
-    unfolding after_header body_of request_body result_body reply_body locate_body
-    header_alike h at s e = go (is_aligned header)
+    header_alike : (h : Noted) → Alike (read_after_header S header h)
+        (read_after_header Other header h)
+    unfolding read_after_header body_of request_body result_body reply_body locate_body
+    header_alike h at s e = go (has_aligned_body header)
       where
         go : (aligned : Bool) →
-            (if aligned then padded S header (body_of S header h) at s
-            else body S header (body_of S header h) at s)
-            ≡ (if aligned then padded Other header (body_of Other header h) at s
-            else body Other header (body_of Other header h) at s)
+            (if aligned then read_padding_and_body S header (body_of S header h) at s
+            else read_body S header (body_of S header h) at s)
+            ≡ (if aligned then read_padding_and_body Other header (body_of Other header h) at s
+            else read_body Other header (body_of Other header h) at s)
         go true = padded_alike (body_of S header h) at s e
         go false = body_alike (body_of S header h) at s e
 
     pub after_alike : (section : Section) (h : Noted) →
-        Alike (after S header section h) (after Other header section h)
+        Alike (read_after_section S header section h) (read_after_section Other header section h)
     after_alike sections.Header h = header_alike h
     after_alike sections.Exception h = exception_alike h
     after_alike sections.SystemException h = rest_alike h
@@ -170,18 +173,19 @@ module _ (S : Signatures) (other : Phase) (header : List ℕ) where
         (reading (coding_of S header) [] T at s))
         (λ at s. section_and_rest Other header section nothing_noted
         (reading (coding_of Other header) [] T at s))
-    whole_alike section T = section_alike section (calling S header section)
-        (after S header section) (after Other header section) (after_alike section) T
+    whole_alike section T = section_alike section (section_call_source S header section)
+        (read_after_section S header section) (read_after_section Other header section)
+        (after_alike section) T
 
-    found_alike : (found : Option Ty) → Alike (of_header S header found)
-        (of_header Other header found)
-    unfolding of_header
+    found_alike : (found : Option Ty) → Alike (read_header_and_rest S header found)
+        (read_header_and_rest Other header found)
+    unfolding read_header_and_rest
     found_alike None at s e = refl
     found_alike (Some T) at s e = whole_alike sections.Header T at s e
 
   pub message_alike : (s : List ℕ) → AgreeBefore (12 + length s) S.phase other →
-      message S header s ≡ message Other header s
-  unfolding message
+      read_message S header s ≡ read_message Other header s
+  unfolding read_message
   message_alike s agree =
       found_alike (12 + length s) agree (S.header (minor header) (kind header)) 12 s refl
 
@@ -189,7 +193,8 @@ module _ (S : Signatures) (other : Phase) (header : List ℕ) where
 
 pub message_phased : (C : Table) (answer : Answer) (phase other : Phase) (header s : List ℕ) →
     AgreeBefore (12 + length s) phase other →
-    message (signatures_of C answer phase) header s ≡ message (signatures_of C answer other)
+    read_message (signatures_of C answer phase) header s ≡ read_message
+    (signatures_of C answer other)
     header s
 unfolding signatures_of
 message_phased C answer phase other header s agree =
@@ -204,8 +209,8 @@ ends_phased phase other number header s more agree =
     let front = both s (λ at less. agree at (omega (arith, length-append s more, less))) in
     rw (front, both (s ++ more) agree) refl
 
-pub lines_phased : (C : Table) (answers : Answers) → IsPhased (message_reader C answers)
-unfolding remarks_by closes_by
+pub lines_phased : (C : Table) (answers : Answers) → UsesPhaseBeforeEnd (message_reader C answers)
+unfolding timed_lines_by lines_of_close_by
 lines_phased C answers = record {
   reads = λ phase other number header xs agree. rw (message_phased C (answers number) phase other
       header xs agree) refl;

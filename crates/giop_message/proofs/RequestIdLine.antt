@@ -12,10 +12,10 @@ use Rattle.giop_message.specs.Phases.{Phase}
 use Rattle.giop_message.specs.Headers.{minor, kind, order}
 use Rattle.giop_message.specs.Text.{value_line_text, numbered_line}
 use Rattle.giop_message.specs.Signatures.{Signatures}
-use Rattle.giop_message.specs.Messages.{line_at, of_header, message, message_lines}
-use Rattle.giop_message.specs.ReaderOfTable.{timed_line_of, line_class_of, text_of, remarks_by, reader_by}
-use Rattle.giop_message.specs.RequestId.{request_id_path, request_id_text, request_id_said}
-use Rattle.giop_message.proofs.Named.{id_told, few_by, four_by}
+use Rattle.giop_message.specs.Messages.{line_at, read_header_and_rest, read_message, message_lines}
+use Rattle.giop_message.specs.ReaderOfTable.{timed_line_of, line_class_of, text_of, timed_lines_by, reader_by}
+use Rattle.giop_message.specs.RequestId.{request_id_path, request_id_text, request_id_timed_line}
+use Rattle.giop_message.proofs.Named.{id_line_of, few_by, four_by}
 use Rattle.giop_message.proofs.Spelling.{said_is_line}
 
 module _ (S : Phase → ℕ → Signatures) (phase : Phase) (number : ℕ)
@@ -24,8 +24,9 @@ module _ (S : Phase → ℕ → Signatures) (phase : Phase) (number : ℕ)
     (begins : BeginsWithId T)
   where
     reading_is : (xs : List ℕ) → (reader_by S).reads phase number header xs
-        ≡ map timed_line_of (message_lines (of_header (S phase number) header (Some T) 12 xs))
-    unfolding remarks_by message
+        ≡ map timed_line_of (message_lines (read_header_and_rest (S phase number) header
+        (Some T) 12 xs))
+    unfolding timed_lines_by read_message
     reading_is xs = search (arith, map)
 
     -- fewer than four octets add no line
@@ -34,8 +35,9 @@ module _ (S : Phase → ℕ → Signatures) (phase : Phase) (number : ℕ)
 
     -- four octets add the line of the number that they spell
     pub four_said : (a b c d : ℕ) → (reader_by S).reads phase number header (a ∷ b ∷ c ∷ d ∷ [])
-        ≡ request_id_said (num (order header) (a ∷ b ∷ c ∷ d ∷ [])) ∷ []
-    unfolding id_told line_at line_class_of text_of value_line_text request_id_path request_id_text
+        ≡ request_id_timed_line (num (order header) (a ∷ b ∷ c ∷ d ∷ [])) ∷ []
+    unfolding id_line_of line_at line_class_of text_of value_line_text request_id_path
+        request_id_text
     four_said a b c d = search (arith, reading_is, map, four_by)
 
 -- The line is the same as the printed line of an unsigned long at that path.

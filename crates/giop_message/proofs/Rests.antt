@@ -13,27 +13,27 @@ use Rattle.giop_message.specs.declared.part.Part.TheVariants as parts
 use Rattle.giop_message.specs.declared.part.Rest.{Rest}
 use Rattle.giop_message.specs.declared.body_type.BodyTypeId.{BodyTypeId}
 use Rattle.giop_message.specs.Signatures.{Signatures, Answers, signatures_of}
-use Rattle.giop_message.specs.Messages.{LineAt, Said, only_lines, nothing_said, said_both, line_at, BodyType, Stage, In_padding, In_rest, MessageReading, ReadTo, with_front, body, message, message_lines, stage_of}
-use Rattle.giop_message.specs.StageSteps.{rest_step, message_step, advance, goes_on}
-use Rattle.giop_message.specs.ReaderOfTable.{line_class_of, text_of, id_in, first_id, first_request_id}
-use Rattle.giop_message.specs.MessageState.{message_line_text, message_lines_text, due, due_text, body_type, Stands, in_header, Follows}
-use Rattle.giop_message.specs.MessageSteps.{Arrives}
+use Rattle.giop_message.specs.Messages.{LineAt, Said, only_lines, nothing_said, said_both, line_at, BodyType, Stage, In_padding, In_rest, MessageReading, ReadTo, with_front, read_body, read_message, message_lines, stage_of}
+use Rattle.giop_message.specs.StageSteps.{rest_step, message_step, read_one_more, read_more}
+use Rattle.giop_message.specs.ReaderOfTable.{line_class_of, text_of, request_id_in, first_some, first_request_id}
+use Rattle.giop_message.specs.MessageState.{message_line_text, message_lines_text, more_lines, more_lines_text, body_type, PartFollows, in_header, Follows}
+use Rattle.giop_message.specs.MessageSteps.{NewPartReads}
 use Rattle.giop_message.proofs.Going.{none_front, message_goes, message_resumes, rest_step_full, rest_step_more}
 use Rattle.giop_message.proofs.Causal.{body_silent}
 use Rattle.giop_message.proofs.Octets.{due_is, told_silent}
 use Rattle.giop_message.proofs.Spelling.{rest_said}
-use Rattle.giop_message.proofs.Followings.{Moved, is_at, id_kept, follows_on}
+use Rattle.giop_message.proofs.Followings.{IsMovedBy, is_at, id_kept, follows_on}
 
 -- the lines of one more octet, from the step from the message's stage
 pub comes_more : (S : Signatures) (header s : List ℕ) (b : ℕ) (said : Said) (at : ℕ)
-    (stage : Stage) → message S header s ≡ ReadTo said at stage →
-    message S header (s ++ b ∷ []) ≡ with_front said (message_step S header at stage b)
-unfolding advance
+    (stage : Stage) → read_message S header s ≡ ReadTo said at stage →
+    read_message S header (s ++ b ∷ []) ≡ with_front said (message_step S header at stage b)
+unfolding read_one_more
 comes_more S header s b said at stage e = search (arith, message_goes)
 
 pub comes_due : (S : Signatures) (header s : List ℕ) (b : ℕ) (said : Said) (at : ℕ)
-    (stage : Stage) (m : MessageReading) → message S header s ≡ ReadTo said at stage →
-    message_step S header at stage b ≡ m → due S header s (b ∷ []) ≡ message_lines m
+    (stage : Stage) (m : MessageReading) → read_message S header s ≡ ReadTo said at stage →
+    message_step S header at stage b ≡ m → more_lines S header s (b ∷ []) ≡ message_lines m
 unfolding message_lines
 comes_due S header s b said at stage m e f =
     due_is S header s (b ∷ []) said (ReadTo said at stage) m e
@@ -55,7 +55,7 @@ unfolding message_step
 padding_on S header at b t h = search (arith, lt-ltb)
 
 padding_last : (S : Signatures) (header : List ℕ) (at b : ℕ) (t : BodyType) → padding at 8 ≤ 1 →
-    message_step S header at (In_padding t) b ≡ body S header t (at + 1) []
+    message_step S header at (In_padding t) b ≡ read_body S header t (at + 1) []
 unfolding message_step
 padding_last S header at b t h = search (arith, le-ltb)
 
@@ -64,8 +64,8 @@ unfolding first_request_id
 none_said emitted e = rw e refl
 
 pub no_text : (S : Signatures) (number place : ℕ) (header s more : List ℕ) →
-    due S header s more ≡ [] → due_text S number place header s more ≡ []
-unfolding due_text message_lines_text
+    more_lines S header s more ≡ [] → more_lines_text S number place header s more ≡ []
+unfolding more_lines_text message_lines_text
 no_text S number place header s more e = rw e refl
 
 module _ {C : Table} {answers : Answers} {phase : Phase} {number : ℕ} {header : List ℕ}
@@ -86,30 +86,30 @@ module _ {C : Table} {answers : Answers} {phase : Phase} {number : ℕ} {header 
     abbrev further : List ℕ
     further = s ++ b ∷ []
 
-    padded : (said : Said) × (message S header s ≡ ReadTo said Here (In_padding T))
+    padded : (said : Said) × (read_message S header s ≡ ReadTo said Here (In_padding T))
     padded = search (arith)
 
     one_due : (x : MessageReading) → message_step S header Here (In_padding T) b ≡ x →
-        due S header s (b ∷ []) ≡ message_lines x
+        more_lines S header s (b ∷ []) ≡ message_lines x
     one_due x e = search (arith, comes_due, padded)
 
     one_comes : (x : MessageReading) → message_step S header Here (In_padding T) b ≡ x →
-        message S header further ≡ with_front padded.0 x
+        read_message S header further ≡ with_front padded.0 x
     one_comes x e = search (arith, comes_more, padded)
 
-    pub padding_told : (1 < padding Here 8) → due S header s (b ∷ []) ≡ []
+    pub padding_told : (1 < padding Here 8) → more_lines S header s (b ∷ []) ≡ []
     unfolding message_lines
     padding_told h = one_due (ReadTo nothing_said (Here + 1) (In_padding T))
         (padding_on S header Here b T h)
 
-    pub last_told : padding Here 8 ≤ 1 → due S header s (b ∷ []) ≡ []
+    pub last_told : padding Here 8 ≤ 1 → more_lines S header s (b ∷ []) ≡ []
     last_told h = search (arith, one_due, padding_last, told_silent, body_silent)
 
-    same_id : due S header s (b ∷ []) ≡ [] →
-        m.id ≡ first_request_id (message_lines (message S header further))
+    same_id : more_lines S header s (b ∷ []) ≡ [] →
+        m.id ≡ first_request_id (message_lines (read_message S header further))
     same_id none = search (arith, id_kept, none_said)
 
-    pub padding_follows : (1 < padding Here 8) → {n : Struct_of} → Moved m n 1 → n.id ≡ m.id →
+    pub padding_follows : (1 < padding Here 8) → {n : Struct_of} → IsMovedBy m n 1 → n.id ≡ m.id →
         n.part ≡ m.part → Follows C answers phase number header n further
     padding_follows h {n} move id part =
         let comes = one_comes (ReadTo nothing_said (Here + 1) (In_padding T))
@@ -117,38 +117,39 @@ module _ {C : Table} {answers : Answers} {phase : Phase} {number : ℕ} {header 
         let at = comes_next padded.0 nothing_said (Here + 1) (12 + length further) (In_padding T)
         (next_at s b) in
         follows_on f (b ∷ []) move (id ∙ rw (part, is) (same_id (padding_told h)))
-        (subst (Stands C answers phase number header further n.decoder) (sym (part ∙ is))
+        (subst (PartFollows C answers phase number header further n.decoder) (sym (part ∙ is))
         (_, comes ∙ at))
 
-    pub last_follows : padding Here 8 ≤ 1 → {k n : Struct_of} → Moved m k 1 →
-        Arrives C answers phase number header k n further
-        (body S header T (12 + length further) []) →
-        Moved m n 1 → n.id ≡ m.id → in_header n.part ≡ false →
+    pub last_follows : padding Here 8 ≤ 1 → {k n : Struct_of} → IsMovedBy m k 1 →
+        NewPartReads C answers phase number header k n further
+        (read_body S header T (12 + length further) []) →
+        IsMovedBy m n 1 → n.id ≡ m.id → in_header n.part ≡ false →
         Follows C answers phase number header n further
     last_follows h move_k arrives move_n id past =
-        let comes = one_comes (body S header T (Here + 1) []) (padding_last S header Here b T h) in
+        let comes = one_comes (read_body S header T (Here + 1) [])
+        (padding_last S header Here b T h) in
         follows_on f (b ∷ []) move_n (id ∙ rw past (same_id (last_told h)))
         (arrives (is_at f (b ∷ []) move_k) padded.0
-        (comes ∙ ap (λ n. with_front padded.0 (body S header T n [])) (next_at s b)))
+        (comes ∙ ap (λ n. with_front padded.0 (read_body S header T n [])) (next_at s b)))
 
 -- ---- in the rest
 
 -- a message after a step in the rest; none of its lines has a request id
-pub record Rested (m : MessageReading) (at : ℕ) : Type 0 where
-  pub comes : m ≡ ReadTo (only_lines (message_lines m)) at (stage_of m)
-  pub no_id : first_request_id (message_lines m) ≡ None
+pub record IsRestStep (reading : MessageReading) (offset : ℕ) : Type 0 where
+  pub comes : reading ≡ ReadTo (only_lines (message_lines reading)) offset (stage_of reading)
+  pub no_id : first_request_id (message_lines reading) ≡ None
 
-rested : (offset : ℕ) (held : List ℕ) (at : ℕ) → Rested (rest_step offset held at) at
-unfolding rest_step message_lines stage_of first_request_id id_in first_id line_at
+rested : (offset : ℕ) (held : List ℕ) (at : ℕ) → IsRestStep (rest_step offset held at) at
+unfolding rest_step message_lines stage_of first_request_id request_id_in first_some line_at
 rested offset held at = search (arith)
 
 -- the octets of one part are read in one step
 part_goes : (S : Signatures) (header : List ℕ) (said : Said) (at offset : ℕ)
     (held : List ℕ)
     (b : ℕ) (bs : List ℕ) → length held + length (b ∷ bs) ≤ 32 →
-    goes_on S header (ReadTo said at (In_rest offset held)) (b ∷ bs)
+    read_more S header (ReadTo said at (In_rest offset held)) (b ∷ bs)
     ≡ with_front said (rest_step offset (held ++ b ∷ bs) (at + length (b ∷ bs)))
-unfolding advance message_step
+unfolding read_one_more message_step
 part_goes S header said at offset held b [] h = refl
 part_goes S header said at offset held b (b' ∷ bs) h = search (
   arith,
@@ -180,27 +181,29 @@ module _ {C : Table} {answers : Answers} {phase : Phase} {number : ℕ} {header 
   abbrev Step : MessageReading
   Step = rest_step r.offset (r.held.items ++ xs) (At + length xs)
 
-  abbrev Stood : Said → MessageReading
+  abbrev Stood : (said : Said) → MessageReading
   Stood said = ReadTo said At (In_rest r.offset r.held.items)
 
-  stood : (said : Said) × (message (signatures_of C (answers number) phase) header s ≡ Stood said)
+  stood : (said : Said) × (read_message (signatures_of C (answers number) phase) header s
+      ≡ Stood said)
   stood = search (arith)
 
-  rest_comes : message (signatures_of C (answers number) phase) header (s ++ xs) ≡ with_front
+  rest_comes : read_message (signatures_of C (answers number) phase) header (s ++ xs) ≡ with_front
       stood.0 Step
   rest_comes = search (arith, message_resumes, stood, size, part_goes)
 
-  rest_due : due (signatures_of C (answers number) phase) header s xs ≡ message_lines Step
+  rest_due : more_lines (signatures_of C (answers number) phase) header s xs ≡ message_lines Step
   unfolding message_lines
   rest_due = search (arith, due_is, stood, rest_comes)
 
-  pub rest_text : (place : ℕ) → due_text (signatures_of C (answers number) phase) number place
+  pub rest_text : (place : ℕ) → more_lines_text (signatures_of C
+      (answers number) phase) number place
       header s xs
       ≡ message_lines_text m.number place At (message_lines Step)
-  unfolding due_text
+  unfolding more_lines_text
   rest_text place = search (arith, rest_due)
 
-  pub rest_follows : {m' : Struct_of} {r' : Rest} → Moved m m' n → m'.id ≡ m.id →
+  pub rest_follows : {m' : Struct_of} {r' : Rest} → IsMovedBy m m' n → m'.id ≡ m.id →
       m'.part ≡ parts.Rest r' →
       stage_of Step ≡ In_rest r'.offset r'.held.items → Follows C answers phase number header m'
       (s ++ xs)
@@ -214,7 +217,7 @@ module _ {C : Table} {answers : Answers} {phase : Phase} {number : ℕ} {header 
       ∙ ap (ReadTo said (At + length xs)) stage) in
       follows_on f xs (rw size move) (id ∙ rw part
       (id_kept f xs (ap first_request_id rest_due ∙ step.no_id) (rw is refl)))
-      (subst (Stands C answers phase number header (s ++ xs) m'.decoder) (sym part)
+      (subst (PartFollows C answers phase number header (s ++ xs) m'.decoder) (sym part)
       (_, rest_comes ∙ (comes ∙ next)))
 
 -- the text of a step in the rest

@@ -20,8 +20,8 @@ use Rattle.giop_message.specs.Phases.{Phase, unbroken, seamed}
 use Rattle.giop_message.specs.MessageReader.{LineClass, Value, Call, Rest, Fault, End, TimedLine, MessageReader}
 use Rattle.giop_message.specs.Text.{value_line_text, call_text, rest_text}
 use Rattle.giop_message.specs.Signatures.{RequestTable, by_list, signatures_of}
-use Rattle.giop_message.specs.Messages.{line_at, is_shown, call_of, calls, section_lines, with_front, section_then, rest_in, rest, typed, option_typed, members_of, after_exception, body, type_if, request_body, result_body, reply_body, locate_body, is_request, body_of, is_aligned, padded, after_header, of_header, message, body_may_be_missing, close, message_lines, stage_of}
-use Rattle.giop_message.specs.ReaderOfTable.{line_class_of, text_of, remarks_by, closes_by, message_reader}
+use Rattle.giop_message.specs.Messages.{line_at, is_graphic_name, call_line_if_named, call_lines_after, section_lines, with_front, section_then, read_rest_in_parts, read_rest, read_typed, read_typed_if_some, members_of, read_after_exception, read_body, typed_if_some, request_body, result_body, reply_body, locate_body, is_request, body_of, has_aligned_body, read_padding_and_body, read_after_header, read_header_and_rest, read_message, body_may_be_missing, lines_of_close, message_lines, stage_of}
+use Rattle.giop_message.specs.ReaderOfTable.{line_class_of, text_of, timed_lines_by, lines_of_close_by, message_reader}
 
 -- an operation with its two structs, counted from the first type after the built-in ones
 called : List ℕ → ℕ → ℕ → Operation
@@ -61,7 +61,7 @@ table = record {
   interfaces = no_interfaces;
   identities = [];
   fronts = first_fronts;
-  narrow = false;
+  forbids_wide = false;
 }
 
 -- the table of the request list `1 ask, 1 ask, 2 nop, 2 ask`
@@ -79,10 +79,14 @@ says at text = record { at = at; line_class = Value; text = text }
 rows : ℕ
 unfolding digits num twos_complement padding block number path_text hex hex_number escaped tree_at
     builtin_types minor kind order value_line_text call_text rest_text signatures_of
-    line_at is_shown call_of calls section_lines with_front section_then rest_in rest typed
-    option_typed members_of after_exception body type_if request_body result_body reply_body
-    locate_body is_request body_of is_aligned padded after_header of_header message
-    body_may_be_missing close message_lines stage_of line_class_of text_of remarks_by closes_by
+    line_at is_graphic_name call_line_if_named call_lines_after section_lines with_front
+    section_then read_rest_in_parts read_rest read_typed
+    read_typed_if_some members_of read_after_exception read_body typed_if_some request_body
+    result_body reply_body
+    locate_body is_request body_of has_aligned_body read_padding_and_body read_after_header
+    read_header_and_rest read_message
+    body_may_be_missing lines_of_close message_lines stage_of line_class_of text_of timed_lines_by
+    lines_of_close_by
     called late table request_table r says longest_front
 rows = 0
 
@@ -129,13 +133,14 @@ short : List (LineClass × List ℕ)
 short = (Fault, codes "short") ∷ []
 
 -- the lines of a message's octets, and those of its close, with padding counted by this phase
-abbrev Joined : Phase → List ℕ → List ℕ → List TimedLine → List (LineClass × List ℕ) → Type 0
-Joined phase header s reads closes =
+abbrev HasLinesByPhase : (phase : Phase) (header octets : List ℕ) (reads : List TimedLine)
+    (closes : List (LineClass × List ℕ)) → Type 0
+HasLinesByPhase phase header s reads closes =
     (r.reads phase 1 header s ≡ reads) × (r.closes phase 1 header s ≡ closes)
 
 -- the same for a message in one piece
-abbrev Row : List ℕ → List ℕ → List TimedLine → List (LineClass × List ℕ) → Type 0
-Row = Joined unbroken
+abbrev Row : List ℕ → List ℕ → (timed_lines : List TimedLine) → List (LineClass × List ℕ) → Type 0
+Row = HasLinesByPhase unbroken
 
 -- A Request without parameters. The message ends at the header's end, within the padding, or at the
 -- padding's end; or a rest of two octets follows.
@@ -219,7 +224,7 @@ t_put = says 4 (codes "header.service_contexts count 0") ∷ says 8 (codes "head
     ∷ says 32 (codes "header.requesting_principal octets @0") ∷ []
 
 -- A Fragment of 1.1 begins in the middle of a number: the number has its octets on both sides.
-seam_in_number : Joined (seamed unbroken 52) (head 1 0)
+seam_in_number : HasLinesByPhase (seamed unbroken 52) (head 1 0)
     (put_11 ++ 0 ∷ 0 ∷ 0 ∷ 0 ∷ 63 ∷ 248 ∷ 0 ∷ 0 ∷ 0 ∷ 0 ∷ 0 ∷ 0 ∷ [])
     (t_put ++ says 44 (codes "body.d double 3ff8000000000000") ∷ []) ended
 unfolding rows head h put_11 t_put ended short
@@ -227,7 +232,7 @@ seam_in_number = (refl, refl)
 
 -- One begins in the padding of a number, at an offset at which the number would be aligned: padding
 -- goes on to the next multiple of 8, counted by the Fragment.
-seam_in_padding : Joined (seamed unbroken 48) (head 1 0)
+seam_in_padding : HasLinesByPhase (seamed unbroken 48) (head 1 0)
     (put_11 ++ 0 ∷ 0 ∷ 0 ∷ 0 ∷ 255 ∷ 255 ∷ 255 ∷ 255 ∷ 63 ∷ 248 ∷ 0 ∷ 0 ∷ 0 ∷ 0 ∷ 0 ∷ 0 ∷ [])
     (t_put ++ says 48 (codes "body.d double 3ff8000000000000") ∷ []) ended
 unfolding rows head h put_11 t_put ended short
@@ -304,7 +309,8 @@ system_exception = (refl, refl)
 addressing : Row (head 2 1) (0 ∷ 0 ∷ 0 ∷ 1 ∷ 0 ∷ 0 ∷ 0 ∷ 5 ∷ 0 ∷ 0 ∷ 0 ∷ 0 ∷ 0 ∷ 2 ∷ [])
     (says 4 (codes "header.request_id ulong 1")
     ∷ says 8 (codes "header.reply_status enum NEEDS_ADDRESSING_MODE")
-    ∷ says 12 (codes "header.service_contexts count 0") ∷ says 14 (codes "body short 2") ∷ []) ended
+    ∷ says 12 (codes "header.service_contexts count 0") ∷ says 14 (codes "body short 2")
+    ∷ []) ended
 unfolding rows head h t_nop t_say t_raw ended short
 addressing = (refl, refl)
 

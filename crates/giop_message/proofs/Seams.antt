@@ -13,10 +13,10 @@ use Rattle.giop_decode.specs.ReadResult.{Coding}
 use Rattle.giop_message.specs.declared.message.Message.{Message as Struct_of}
 use Rattle.giop_message.specs.declared.part.Part.{Part}
 use Rattle.giop_message.specs.declared.part.Part.TheVariants as parts
-use Rattle.giop_message.specs.Phases.{Phase, AgreeBefore, IsCounted, seamed}
+use Rattle.giop_message.specs.Phases.{Phase, AgreeBefore, IsShiftedFrom, seamed}
 use Rattle.giop_message.specs.Signatures.{Answers, signatures_of}
-use Rattle.giop_message.specs.Messages.{with_front, message}
-use Rattle.giop_message.specs.MessageState.{Stands, Follows}
+use Rattle.giop_message.specs.Messages.{with_front, read_message}
+use Rattle.giop_message.specs.MessageState.{PartFollows, Follows}
 use Rattle.giop_message.proofs.Followings.{counted_now}
 use Rattle.giop_message.proofs.Phased.{message_phased, whole_alike}
 
@@ -24,13 +24,13 @@ seam_agrees : (phase : Phase) (here : ℕ) → AgreeBefore here phase (seamed ph
 seam_agrees phase here at before = rw (lt-ltb at here before) refl
 
 seam_counted : (phase : Phase) (here lacks : ℕ) → lacks ≡ (12 - here % 8) % 8 →
-    IsCounted (seamed phase here) lacks here
+    IsShiftedFrom (seamed phase here) lacks here
 seam_counted phase here lacks is k =
     let after : here ≤ here + k = omega arith in
     rw (le-ltb (here + k) here after) (omega (arith, is))
 
 -- an offset lacks nothing exactly if padding there is counted by the offset
-pub lacks_nothing : (phase : Phase) (lacks here : ℕ) → lacks < 8 → IsCounted phase lacks here →
+pub lacks_nothing : (phase : Phase) (lacks here : ℕ) → lacks < 8 → IsShiftedFrom phase lacks here →
     IsTrue (lacks == 0) ↔ (phase here % 8 ≡ here % 8)
 lacks_nothing phase lacks here few counted =
     let now = counted_now phase lacks here counted in (
@@ -39,23 +39,24 @@ lacks_nothing phase lacks here few counted =
     )
 
 -- the other decoder reads the same octets, with a seam after them
-abbrev pub ReadsSeamed : Table → Decoder → Decoder → Type 0
+abbrev pub ReadsSeamed : (C : Table) (d e : Decoder) → Type 0
 ReadsSeamed C d e = (T : Ty) (coding : Coding) (at message : ℕ) (root : Root) (octets : List ℕ) →
     decoders.Reads C T coding at message root d octets →
-    decoders.Reads C T (readings.seamed coding (at + length octets)) at message root e octets
+    decoders.Reads C T (readings.fragment_aligned_from coding (at + length octets)) at message root
+    e octets
 
 module _ (C : Table) (answers : Answers) (phase : Phase) (number : ℕ) (header s : List ℕ) where
   abbrev Here : ℕ
   Here = 12 + length s
 
-  same_message : message (signatures_of C (answers number) (seamed phase Here)) header s
-      ≡ message (signatures_of C (answers number) phase) header s
+  same_message : read_message (signatures_of C (answers number) (seamed phase Here)) header s
+      ≡ read_message (signatures_of C (answers number) phase) header s
   same_message = sym (message_phased C (answers number) phase (seamed phase Here) header s
       (seam_agrees phase Here))
 
   seam_stands : (d e : Decoder) (p : Part) → ReadsSeamed C d e →
-      Stands C answers phase number header s d p →
-      Stands C answers (seamed phase Here) number header s e p
+      PartFollows C answers phase number header s d p →
+      PartFollows C answers (seamed phase Here) number header s e p
   unfolding signatures_of
   seam_stands d e (parts.Typed section) on h =
       let ends : (12 + length h.front) + length h.octets ≡ Here =

@@ -18,7 +18,7 @@ use Rattle.giop_decode.specs.declared.progress.Progress.TheVariants as progress
 use Rattle.giop_decode.specs.ReadResult.{Coding, Read, Done, Short, Fault}
 use Rattle.giop_decode.specs.Noted.{nothing_noted, noted_of, is_header_root}
 use Rattle.giop_decode.specs.DecoderState as decoders
-use Rattle.giop_decode.specs.Runs.{AreAnswered, BreaksOff}
+use Rattle.giop_decode.specs.Runs.{AreAnswersToOctets, BreaksOff}
 use Rattle.giop_message.specs.Phases.{Phase}
 use Rattle.giop_message.specs.declared.message.Message.{Message as Struct_of}
 use Rattle.giop_message.specs.declared.part.Section.{Section}
@@ -28,20 +28,20 @@ use Rattle.giop_message.specs.declared.part.Rest.{Rest}
 use Rattle.giop_message.specs.declared.body_type.BodyTypeId.{BodyTypeId}
 use Rattle.giop_message.specs.Headers.{minor, kind}
 use Rattle.giop_message.specs.Signatures.{Signatures, Answer, Answers, signatures_of}
-use Rattle.giop_message.specs.Messages.{coding_of, Mark, name_mark, end_mark, message_marks, section_then, message, message_lines, root_of, after}
-use Rattle.giop_message.specs.HeaderEnds.{HeaderEnd, CallEvent, Header_end, end_of, header_ends, operation_of, raise_event, after_event, after_ends, AgreesAtEnds}
+use Rattle.giop_message.specs.Messages.{coding_of, Mark, name_marks, end_marks, message_marks, section_then, read_message, message_lines, root_of, read_after_section}
+use Rattle.giop_message.specs.HeaderEnds.{HeaderEnd, CallEvent, Header_end, header_end_at, header_ends, operation_of, raise_event, after_event, after_ends, AgreesAtEnds}
 use Rattle.giop_message.specs.ReaderOfTable.{first_request_id}
 use Rattle.giop_message.specs.Text.{fault_word}
-use Rattle.giop_message.specs.MessageState.{due_text, body_type, Decodes, Stands, FitsVersion, FitsPart, Fits, is_header, in_header, Follows, FaultedAt}
-use Rattle.giop_message.specs.StageSteps.{goes_on}
-use Rattle.giop_message.specs.MessageSteps.{request_call, section_event, Arrives}
+use Rattle.giop_message.specs.MessageState.{more_lines_text, body_type, Decodes, PartFollows, FitsVersion, FitsPart, Fits, is_header, in_header, Follows, FaultedAt}
+use Rattle.giop_message.specs.StageSteps.{read_more}
+use Rattle.giop_message.specs.MessageSteps.{call_line_of_request, section_event, NewPartReads}
 use Rattle.giop_message.specs.DueOctets.{TakesFront}
 use Rattle.giop_message.proofs.HeaderEndLaws.{header_ends_both, header_ends_none, answers_first}
-use Rattle.giop_message.proofs.Marks.{marks_front, ended, ends_are, unmarked, marks_ended, rest_goes_unmarked, padding_step_marks}
+use Rattle.giop_message.proofs.Marks.{marks_front, marks_after_reading, ends_are, unmarked, marks_ended, rest_goes_unmarked, padding_step_marks}
 use Rattle.giop_message.proofs.Going.{message_resumes}
 use Rattle.giop_message.proofs.Rests.{comes_more}
-use Rattle.giop_message.proofs.Parts.{Begun, start, reading, comes, Inside}
-use Rattle.giop_message.proofs.Followings.{header_only, id_noted, Moved, is_at, follows_on}
+use Rattle.giop_message.proofs.Parts.{BegunSection, start, reading, message_by_reading, IsInsideSection}
+use Rattle.giop_message.proofs.Followings.{header_only, id_noted, IsMovedBy, is_at, follows_on}
 use Rattle.giop_message.proofs.Runs.{Last, LinesOf, last_one, more_fronts, run_more, run_done, run_named_in, run_named, run_wrong, run_broken, decodes, same_id, answer_all, behind, last_answer, done_comes, fault_comes}
 
 -- if a call failed, nothing is said of its result
@@ -57,7 +57,7 @@ first_alone (x ∷ xs) some = refl
 -- ---- a message that follows a list of octets
 
 -- the message is in this section, and the decoder reads the section
-pub record Standing : Type 0 where
+pub record ReadSection : Type 0 where
   pub C : Table
   pub answers : Answers
   pub phase : Phase
@@ -73,7 +73,7 @@ pub record Standing : Type 0 where
 abbrev pub standing : {C : Table} {answers : Answers} {phase : Phase} {number : ℕ} {header : List ℕ}
     {m : Struct_of}
     {s : List ℕ} {section : Section} → Follows C answers phase number header m s →
-    m.part ≡ parts.Typed section → Fits C m → Standing
+    m.part ≡ parts.Typed section → Fits C m → ReadSection
 standing {C} {m = m} f is fits =
     let e = subst (FitsPart C (minor m.header) m.at m.decoder) is fits in
     record {
@@ -90,19 +90,19 @@ standing {C} {m = m} f is fits =
       fits = e;
     }
 
-module _ (t : Standing) where
+module _ (t : ReadSection) where
   open t use {C, answers, phase, number, header, m, s, follows, section, is}
 
   abbrev S : Signatures
   S = signatures_of C (answers number) phase
 
   abbrev opened : Decodes C S number header s section m.decoder
-  opened = subst (Stands C answers phase number header s m.decoder) is follows.stands
+  opened = subst (PartFollows C answers phase number header s m.decoder) is follows.stands
 
   abbrev octets_of : List ℕ
   octets_of = opened.octets
 
-  abbrev begun : Begun
+  abbrev begun : BegunSection
   begun =
       record {
         S = S;
@@ -116,9 +116,10 @@ module _ (t : Standing) where
         front = opened.front;
       }
 
-  inside : Inside begun s octets_of
+  inside : IsInsideSection begun s octets_of
   inside =
-      let goes_on = ap (λ leaf. decoders.read_by_leaf (seen m.decoder.narrow C) m.decoder leaf
+      let read_more = ap (λ leaf. decoders.read_by_leaf (seen m.decoder.forbids_wide C) m.decoder
+      leaf
       opened.reads.lines
       (start begun + length octets_of)) t.fits.fits.goes_on in
       record {
@@ -128,40 +129,40 @@ module _ (t : Standing) where
         lines = opened.reads.lines;
         outer = _;
         leaf = _;
-        was_short = opened.reads.is ∙ goes_on;
+        was_short = opened.reads.is ∙ read_more;
       }
 
-  abbrev LastOf : List ℕ → Progress → Type 0
+  abbrev LastOf : (octets : List ℕ) (p : Progress) → Type 0
   LastOf xs p = Last begun octets_of xs p
 
-  abbrev ReadsWith : Decoder → List ℕ → Type 0
+  abbrev ReadsWith : (d' : Decoder) (octets : List ℕ) → Type 0
   ReadsWith d' xs = decoders.Reads C opened.T (coding_of S header) (start begun) number
       (root_of section)
       d' (octets_of ++ xs)
 
-  abbrev pub ReadWith : List ℕ → Read
+  abbrev pub ReadWith : (octets : List ℕ) → Read
   ReadWith xs = reading begun (octets_of ++ xs)
 
   kept_id : (xs : List ℕ) (p : Progress) → LastOf xs p → (inside : Bool) →
       is_header section ≡ inside →
-      m.id ≡ cond inside None (first_request_id (message_lines (message S header (s ++ xs))))
+      m.id ≡ cond inside None (first_request_id (message_lines (read_message S header (s ++ xs))))
   kept_id xs p l true e = follows.id ∙ rw (is, e) refl
   kept_id xs p l false e = follows.id ∙ rw (is, e) (sym (same_id begun s octets_of inside xs p l e))
 
   -- the section goes on
   section_on : (xs : List ℕ) (p : Progress) → LastOf xs p → (n : Struct_of) →
-      Moved m n (length xs) → n.id ≡ m.id → n.part ≡ parts.Typed section →
+      IsMovedBy m n (length xs) → n.id ≡ m.id → n.part ≡ parts.Typed section →
       ReadsWith n.decoder xs →
       Follows C answers phase number header n (s ++ xs)
   section_on xs p l n move id part reads =
       follows_on follows xs move (id ∙ rw part (kept_id xs p l (is_header section) refl))
-      (subst (Stands C answers phase number header (s ++ xs) n.decoder) (sym part)
+      (subst (PartFollows C answers phase number header (s ++ xs) n.decoder) (sym part)
       (decodes begun s octets_of inside C xs n.decoder refl reads))
 
   ended_id : (xs : List ℕ) → LastOf xs progress.Done → (d' : Decoder) → ReadsWith d' xs →
       (id : Option ℕ) (inside : Bool) →
       is_header section ≡ inside → id ≡ cond inside (noted_of true (ReadWith xs)).request_id m.id →
-      id ≡ first_request_id (message_lines (message S header (s ++ xs)))
+      id ≡ first_request_id (message_lines (read_message S header (s ++ xs)))
   ended_id xs l d' reads id false e id_is = id_is ∙ kept_id xs progress.Done l false e
   ended_id xs l d' reads id true e id_is =
       id_is ∙ id_noted (decodes begun s octets_of inside C xs d' refl reads)
@@ -177,7 +178,7 @@ module _ (t : Standing) where
       opened.reads
 
   -- a put failed at one of the octets
-  abbrev pub Breaks : List ℕ → OutLog → OutLog → Type 0
+  abbrev pub Breaks : (octets : List ℕ) (a b : OutLog) → Type 0
   Breaks xs a b = BreaksOff opened.T (coding_of S header) (start begun) number (root_of section)
       octets_of
       xs a b
@@ -201,20 +202,20 @@ module _ (t : Standing) where
   }
 
 -- the text of these octets; and below it, their lines
-abbrev Text : Standing → List ℕ → ℕ → ℕ → List ℕ
-Text t octets n place = due_text (S t) t.number place t.header t.s (take n octets)
+abbrev Text : (t : ReadSection) (octets : List ℕ) (n place : ℕ) → List ℕ
+Text t octets n place = more_lines_text (S t) t.number place t.header t.s (take n octets)
 
-abbrev ValueLine : Standing → List ℕ → ℕ → List ℕ
+abbrev ValueLine : (t : ReadSection) (octets : List ℕ) (n : ℕ) → List ℕ
 ValueLine t octets n = LinesOf (begun t) (octets_of t) (take n octets)
 
-module _ {t : Standing} {octets : List ℕ} {n : ℕ} {d' : Decoder} where
+module _ {t : ReadSection} {octets : List ℕ} {n : ℕ} {d' : Decoder} where
   open t use {C, answers, phase, number, header, m, s, follows, section}
 
   last : (p : Progress) → Took t octets n d' p → LastOf t (take n octets) p
   last p k = search (arith, take, length-take-le, last_one, start)
 
-  moved : (p : Progress) → Took t octets n d' p → (m' : Struct_of) → Moved m m' n →
-      Moved m m' (length (take n octets))
+  moved : (p : Progress) → Took t octets n d' p → (m' : Struct_of) → IsMovedBy m m' n →
+      IsMovedBy m m' (length (take n octets))
   moved p k m' move = search (arith, length-take-le)
 
   -- ---- the text of these octets
@@ -231,13 +232,13 @@ module _ {t : Standing} {octets : List ℕ} {n : ℕ} {d' : Decoder} where
 
   pub text_named : Took t octets n d' progress.Named → (place : ℕ) →
       Text t octets n place ≡ ValueLine t octets n
-      ++ request_call (S t) m.number m.header (noted_of true (ReadWith t (take n octets)))
+      ++ call_line_of_request (S t) m.number m.header (noted_of true (ReadWith t (take n octets)))
   text_named k place =
       let heard = noted_of true (ReadWith t (take n octets)) in
       run_named (begun t) s (octets_of t) (inside t) (take n octets) place (last progress.Named k)
-      ∙ (ap (λ x. ValueLine t octets n ++ request_call (S t) x header heard)
+      ∙ (ap (λ x. ValueLine t octets n ++ call_line_of_request (S t) x header heard)
       (sym follows.same_number)
-      ∙ ap (λ x. ValueLine t octets n ++ request_call (S t) m.number x heard)
+      ∙ ap (λ x. ValueLine t octets n ++ call_line_of_request (S t) m.number x heard)
       (sym follows.same_header))
 
   pub text_wrong : (why : ValueFault) → Took t octets n d' (progress.Fault why) → (place : ℕ) →
@@ -263,17 +264,17 @@ module _ {t : Standing} {octets : List ℕ} {n : ℕ} {d' : Decoder} where
       k.takes.keeps_noted
 
   pub went_on : {p : Progress} → Took t octets n d' p → (decoders.IsFault p → ⊥) →
-      (m' : Struct_of) → Moved m m' n → m'.id ≡ m.id →
+      (m' : Struct_of) → IsMovedBy m m' n → m'.id ≡ m.id →
       m'.part ≡ parts.Typed section → m'.decoder ≡ d' →
       Follows C answers phase number header m' (s ++ (take n octets))
   went_on {p} k going m' move id part decoder = section_on t (take n octets) p (last p k) m'
       (moved p k m' move) id part (rw decoder (k.takes.reads going))
 
-  pub went_done : Took t octets n d' progress.Done → (m1 m2 : Struct_of) → Moved m m1 n →
-      m1.id ≡ m.id → Arrives C answers phase number header m1 m2 (s ++ (take n octets))
-      (after (S t) header section
+  pub went_done : Took t octets n d' progress.Done → (m1 m2 : Struct_of) → IsMovedBy m m1 n →
+      m1.id ≡ m.id → NewPartReads C answers phase number header m1 m2 (s ++ (take n octets))
+      (read_after_section (S t) header section
       (noted_of (is_header_root (root_of section)) (ReadWith t (take n octets)))
-      (12 + length (s ++ (take n octets))) []) → Moved m m2 n → m2.id ≡ cond (is_header section)
+      (12 + length (s ++ (take n octets))) []) → IsMovedBy m m2 n → m2.id ≡ cond (is_header section)
       (noted_of true (ReadWith t (take n octets))).request_id m1.id →
       in_header m2.part ≡ false → Follows C answers phase number header m2 (s ++ (take n octets))
   went_done k m1 m2 move_1 id_1 arrives move_2 id_2 past =
@@ -295,12 +296,12 @@ module _ {t : Standing} {octets : List ℕ} {n : ℕ} {d' : Decoder} where
 -- ---- a header ends, or a name ends
 
 -- an answer that isn't the end of the section
-abbrev IsNoEnd : Progress → Type 0
+abbrev IsNoEnd : (progress : Progress) → Type 0
 IsNoEnd progress.Done = ⊥
 IsNoEnd p = Unit {0}
 
 answer_unended : (section : Section) (end : ℕ) (named : Bool) (p : Progress) (r : Read) →
-    decoders.IsAnswer end named p r → IsNoEnd p → ended section nothing_noted r ≡ []
+    decoders.IsAnswer end named p r → IsNoEnd p → marks_after_reading section nothing_noted r ≡ []
 answer_unended section end named p (Short lines at outer leaf) a other = refl
 answer_unended section end named p (Fault lines at why T) a other = refl
 answer_unended section end named progress.More (Done lines at rest) a other = absurd a
@@ -310,22 +311,24 @@ answer_unended section end named (progress.Fault kind) (Done lines at rest) a ot
 
 answer_ended : (section : Section) (end : ℕ) (named : Bool) (r : Read) →
     decoders.IsAnswer end named progress.Done r →
-    ended section nothing_noted r
-    ≡ end_mark section (noted_of (is_header_root (root_of section)) r)
+    marks_after_reading section nothing_noted r
+    ≡ end_marks section (noted_of (is_header_root (root_of section)) r)
 answer_ended section end named (Done lines at rest) a = refl
 answer_ended section end named (Short lines at outer leaf) a = absurd a
 answer_ended section end named (Fault lines at why T) a = absurd a
 
 -- what ends when a section ends, from the section's reading
-abbrev section_ends : Section → ℕ → List ℕ → Read → List HeaderEnd
+abbrev section_ends : (section : Section) (number : ℕ) (header : List ℕ) (reading : Read) →
+    List HeaderEnd
 section_ends section number header r =
-    map (end_of number header) (end_mark section (noted_of (is_header_root (root_of section)) r))
+    map (header_end_at number header)
+    (end_marks section (noted_of (is_header_root (root_of section)) r))
 
 module _ (C : Table) (number : ℕ) (header : List ℕ) {St : Type 0} (notified : St → CallEvent → St)
     (st : St) where
   name_ends : (name : Option (List ℕ)) →
       after_event notified st (raise_event number name)
-      ≡ after_ends notified C st (map (end_of number header) (name_mark name))
+      ≡ after_ends notified C st (map (header_end_at number header) (name_marks name))
   name_ends None = refl
   name_ends (Some name) = refl
 
@@ -338,35 +341,37 @@ module _ (C : Table) (number : ℕ) (header : List ℕ) {St : Type 0} (notified 
   event_ends sections.SystemException r = name_ends (noted_of false r).name
   event_ends sections.Body r = refl
 
-module _ (t : Standing) (xs : List ℕ) (p : Progress) (l : LastOf t xs p) where
+module _ (t : ReadSection) (xs : List ℕ) (p : Progress) (l : LastOf t xs p) where
   open t use {C, answers, phase, number, header, s, section}
 
   -- the marks that the octets add to the message are those of its section
   here_ends : header_ends phase number header s xs
-      ≡ map (end_of number header) (ended section nothing_noted (ReadWith t xs))
+      ≡ map (header_end_at number header) (marks_after_reading section nothing_noted
+      (ReadWith t xs))
   unfolding section_then message_marks
   here_ends =
       let i = inside t in
       let before = (begun t).before in
       let a = last_answer (begun t) s (octets_of t) i xs p l in
-      let so_far : message_marks (message (S t) header s) ≡ before.marks =
-      ap message_marks (i.is ∙ ap (comes (begun t)) i.was_short)
+      let so_far : message_marks (read_message (S t) header s) ≡ before.marks =
+      ap message_marks (i.is ∙ ap (message_by_reading (begun t)) i.was_short)
       ∙ (marks_front before _ ∙ append-nil before.marks) in
       ends_are C (answers number) phase number header s xs _
       (ap message_marks (behind (begun t) s (octets_of t) i xs) ∙ (marks_front before _
       ∙ (ap (λ (ms : List Mark). before.marks ++ ms) (marks_ended (S t) header section nothing_noted
       (ReadWith t xs) (answer_all a.0 a.1 p (ReadWith t xs) a.2))
-      ∙ ap (λ (ms : List Mark). ms ++ ended section nothing_noted (ReadWith t xs)) (sym so_far))))
+      ∙ ap (λ (ms : List Mark). ms ++ marks_after_reading section nothing_noted (ReadWith t xs))
+      (sym so_far))))
 
   ends_none : IsNoEnd p → header_ends phase number header s xs ≡ []
   ends_none other =
       let a = last_answer (begun t) s (octets_of t) (inside t) xs p l in
-      here_ends ∙ ap (map (end_of number header))
+      here_ends ∙ ap (map (header_end_at number header))
       (answer_unended section a.0 a.1 p (ReadWith t xs) a.2 other)
 
 -- nothing ends in a front of octets after which the section goes on
-ends_sooner : (t : Standing) (front more : List ℕ) →
-    AreAnswered (coding_of (S t) t.header) (opened t).T (start (begun t)) (root_of t.section)
+ends_sooner : (t : ReadSection) (front more : List ℕ) →
+    AreAnswersToOctets (coding_of (S t) t.header) (opened t).T (start (begun t)) (root_of t.section)
     (octets_of t)
     front progress.More → (k : ℕ) → k ≤ length front →
     header_ends t.phase t.number t.header t.s (take k (front ++ more)) ≡ []
@@ -383,10 +388,10 @@ ends_sooner t front more on (suc k) few =
     (take (suc k) front) progress.More some fronts) tt
 
 -- a put failed at one of the octets
-pub broken_front : (t : Standing) {E : Type 0} (r : Result (ℕ × Bool) E) (octets : List ℕ)
+pub broken_front : (t : ReadSection) {E : Type 0} (r : Result (ℕ × Bool) E) (octets : List ℕ)
     (place : ℕ) {a b : OutLog} → IsErr r → Breaks t octets a b →
     TakesFront (λ went. went.0) (λ xs. header_ends t.phase t.number t.header t.s xs ≡ [])
-    (λ xs. Writes r a b (due_text (S t) t.number place t.header t.s xs)) r octets
+    (λ xs. Writes r a b (more_lines_text (S t) t.number place t.header t.s xs)) r octets
 broken_front t r octets place {a} {b} failed broke =
     let fr = broke.front ++ broke.octet ∷ [] in
     let n = length broke.front + 1 in
@@ -406,7 +411,7 @@ broken_front t r octets place {a} {b} failed broke =
           (run_broken (begun t) t.s (octets_of t) (inside t) octets place a b broke));
     }
 
-module _ {t : Standing} {octets : List ℕ} {n : ℕ} {d' : Decoder} where
+module _ {t : ReadSection} {octets : List ℕ} {n : ℕ} {d' : Decoder} where
   open t use {C, answers, phase, number, header, m, s, follows, section}
 
   -- if octets don't end a section, no header and no name ends in them
@@ -431,7 +436,7 @@ module _ {t : Standing} {octets : List ℕ} {n : ℕ} {d' : Decoder} where
       (a b : OutLog) → IfOk r (λ went. went.0 ≡ n) → Took t octets n d' p →
       Writes r a b (Text t octets n place) →
       TakesFront (λ went. went.0) (λ xs. header_ends phase number header s xs ≡ [])
-      (λ xs. Writes r a b (due_text (S t) number place header s xs)) r octets
+      (λ xs. Writes r a b (more_lines_text (S t) number place header s xs)) r octets
   took_front r place a b counted k wrote = search (arith, none_sooner)
 
   -- a put failed after the lines of the octets
@@ -439,7 +444,7 @@ module _ {t : Standing} {octets : List ℕ} {n : ℕ} {d' : Decoder} where
       {a b c : OutLog} {x y : List ℕ} → IsErr r → Took t octets n d' p →
       Text t octets n place ≡ x ++ y → Wrote a b x → WroteFront b c y →
       TakesFront (λ went. went.0) (λ xs. header_ends phase number header s xs ≡ [])
-      (λ xs. Writes r a c (due_text (S t) number place header s xs)) r octets
+      (λ xs. Writes r a c (more_lines_text (S t) number place header s xs)) r octets
   failed_front r place {a} {b} {c} {x} {y} failed k text wrote front =
       took_front r place a c (if_err _ r failed) k
       (writes_failed r a c _ failed (rw text (wrote-front a b c x y wrote front)))
@@ -451,7 +456,7 @@ module _ {t : Standing} {octets : List ℕ} {n : ℕ} {d' : Decoder} where
       let xs = take n octets in
       let l = last progress.Done k in
       let a = last_answer (begun t) s (octets_of t) (inside t) xs progress.Done l in
-      here_ends t xs progress.Done l ∙ ap (map (end_of number header))
+      here_ends t xs progress.Done l ∙ ap (map (header_end_at number header))
       (answer_ended section a.0 a.1 (ReadWith t xs) a.2)
 
   one_ends : Took t octets n d' progress.Done → section ≡ sections.Header →
@@ -503,7 +508,7 @@ module _ {C : Table} {answers : Answers} {phase : Phase} {number : ℕ} {header 
   unfolding message_marks
   padding_none {body_type_id} is x =
       let S = signatures_of C (answers number) phase in
-      let stands = subst (Stands C answers phase number header s m.decoder) is f.stands in
+      let stands = subst (PartFollows C answers phase number header s m.decoder) is f.stands in
       unmarked C (answers number) phase number header s (x ∷ [])
       (ap message_marks (comes_more S header s x stands.0 (12 + length s) _ stands.1)
       ∙ (marks_front stands.0 _ ∙ (ap (λ (ms : List Mark). stands.0.marks ++ ms)
@@ -516,10 +521,10 @@ module _ {C : Table} {answers : Answers} {phase : Phase} {number : ℕ} {header 
   unfolding message_marks
   rest_none {r} is more =
       let S = signatures_of C (answers number) phase in
-      let stands = subst (Stands C answers phase number header s m.decoder) is f.stands in
+      let stands = subst (PartFollows C answers phase number header s m.decoder) is f.stands in
       unmarked C (answers number) phase number header s more
       (ap message_marks (message_resumes S header s more
-      ∙ ap (λ x. goes_on S header x more) stands.1)
+      ∙ ap (λ x. read_more S header x more) stands.1)
       ∙ (rest_goes_unmarked S header more stands.0 (12 + length s) r.offset r.held.items
       ∙ sym (ap message_marks stands.1)))
 
@@ -527,10 +532,12 @@ module _ {C : Table} {answers : Answers} {phase : Phase} {number : ℕ} {header 
   pub rest_front : {r : Rest} → m.part ≡ parts.Rest r → (octets : List ℕ) (place : ℕ) {E : Type 0}
       (result : Result (ℕ × Bool) E) (n : ℕ) (a b : OutLog) → IfOk result (λ went. went.0 ≡ n) →
       n ≤ length octets → (0 < length octets → 0 < n) →
-      Writes result a b (due_text (signatures_of C (answers number) phase) number place header s
+      Writes result a b (more_lines_text (signatures_of C
+      (answers number) phase) number place header s
       (take n octets)) →
       TakesFront (λ went. went.0) (λ xs. header_ends phase number header s xs ≡ [])
-      (λ xs. Writes result a b (due_text (signatures_of C (answers number) phase) number place
+      (λ xs. Writes result a b (more_lines_text (signatures_of C
+      (answers number) phase) number place
       header s
       xs)) result octets
   rest_front is octets place result n a b counted within some wrote = search (arith, rest_none)

@@ -10,7 +10,7 @@ use Rattle.giop_decode.specs.Spelling.{line_text}
 use Rattle.giop_message.specs.Text.{value_line_text, call_text, rest_text, numbered_line}
 use Rattle.giop_message.specs.Messages.{ValueLine}
 use Rattle.giop_message.specs.ReaderOfTable.{text_of}
-use Rattle.giop_message.specs.MessageSteps.{shown_call}
+use Rattle.giop_message.specs.MessageSteps.{call_line_with}
 
 -- two lists of pieces, joined one after the other
 joined_both : (xs ys : List (List ℕ)) → joined (xs ++ ys) ≡ joined xs ++ joined ys
@@ -30,7 +30,7 @@ said_is_line number at root path v = search (arith, said_joined)
 
 pub call_said : (number id : ℕ) (operation : List ℕ) (interface : Option (List ℕ)) →
     numbered_line number (call_text id operation interface)
-    ≡ shown_call number id operation interface
+    ≡ call_line_with number id operation interface
 unfolding call_text call_line interface_call_line
 call_said number id operation None = search (arith, said_joined)
 call_said number id operation (Some interface) = search (arith, said_joined)

@@ -15,8 +15,8 @@ use Rattle.giop_message.specs.declared.body_type.BodyTypeId.{BodyTypeId}
 use Rattle.giop_message.specs.declared.body_type.BodyTypeId.TheVariants as body_type_ids
 use Rattle.giop_message.specs.Headers.{minor}
 use Rattle.giop_message.specs.Signatures.{Answers}
-use Rattle.giop_message.specs.MessageState.{FitsPart, Fits, in_header, Stands}
-use Rattle.giop_message.specs.Stored.{part_octet, kept_id, own_octets, padding_octets, rest_octets, IsOwnOf, IsPaddingOf, IsRestOf, PartStored, Stored, IsSameRest, GoesOn}
+use Rattle.giop_message.specs.MessageState.{FitsPart, Fits, in_header, PartFollows}
+use Rattle.giop_message.specs.Stored.{part_octet, stored_id, own_octets, padding_octets, rest_octets, AreOwnOctets, IsPaddingOf, IsRestOf, PartStored, Stored, IsSameRest, PartGoesOn}
 
 pub not_both : {b : Bool} → b ≡ false → IsTrue b → ⊥
 not_both f t = cc
@@ -28,7 +28,7 @@ there P None is not = is
 
 -- ---- padding
 
-abbrev wanted_octet : BodyTypeId → ℕ
+abbrev wanted_octet : (body_type_id : BodyTypeId) → ℕ
 wanted_octet body_type_ids.Nothing = 0
 wanted_octet (body_type_ids.Type of) = 1
 wanted_octet body_type_ids.Exception = 2
@@ -108,21 +108,23 @@ pub both : (fixed : List ℕ) → drop 0 fixed ≡ take 16 fixed ++ drop 16 fixe
 both fixed = sym (take-append-drop 16 fixed)
 
 -- the offsets of these fields
-pub record OwnFields (m : Message) (fixed : List ℕ) : Type 0 where
+pub record OwnFields (message : Message) (fixed : List ℕ) : Type 0 where
   pub rest : List ℕ
   pub part : drop 0 fixed
-      ≡ part_octet m.part ∷ (eight m.at ++ (optional (kept_id m.part m.id) ++ m.lacks ∷ rest))
-  pub at : drop 1 fixed ≡ eight m.at ++ (optional (kept_id m.part m.id) ++ m.lacks ∷ rest)
-  pub id : drop 9 fixed ≡ optional (kept_id m.part m.id) ++ m.lacks ∷ rest
-  pub lacks : drop 14 fixed ≡ m.lacks ∷ rest
+      ≡ part_octet message.part ∷ (eight message.at ++ (optional
+      (stored_id message.part message.id) ++ message.lacks ∷ rest))
+  pub at : drop 1 fixed ≡ eight message.at ++ (optional
+      (stored_id message.part message.id) ++ message.lacks ∷ rest)
+  pub id : drop 9 fixed ≡ optional (stored_id message.part message.id) ++ message.lacks ∷ rest
+  pub lacks : drop 14 fixed ≡ message.lacks ∷ rest
 
 four_parts : (a b c d : List ℕ) → a ++ b ++ c ++ d ≡ a ++ (b ++ (c ++ d))
 four_parts a b c d = search (arith, append_assoc)
 
-pub own_fields : (m : Message) (fixed : List ℕ) → IsOwnOf (take 16 fixed) m → OwnFields m fixed
+pub own_fields : (m : Message) (fixed : List ℕ) → AreOwnOctets (take 16 fixed) m → OwnFields m fixed
 unfolding own_octets
 own_fields m fixed own =
-    let id : List ℕ = optional (kept_id m.part m.id) in
+    let id : List ℕ = optional (stored_id m.part m.id) in
     let rest : List ℕ = 0 ∷ drop 16 fixed in
     let split : eight m.at ++ id ++ (m.lacks ∷ 0 ∷ []) ++ drop 16 fixed
     ≡ eight m.at ++ (id ++ m.lacks ∷ rest) =
@@ -139,7 +141,7 @@ own_fields m fixed own =
       part = part;
       at = at;
       id = read;
-      lacks = behind 9 5 fixed id _ read (optional_long (kept_id m.part m.id));
+      lacks = behind 9 5 fixed id _ read (optional_long (stored_id m.part m.id));
     }
 
 pub own_long : (m : Message) → length (own_octets m) ≡ 16
@@ -148,7 +150,7 @@ own_long m = search (arith, length-append, replicate, eight_long, optional_long)
 
 pub same_own : (e m : Message) → e.at ≡ m.at → e.lacks ≡ m.lacks → part_octet e.part ≡ part_octet
     m.part
-    → kept_id e.part e.id ≡ kept_id m.part m.id → own_octets e ≡ own_octets m
+    → stored_id e.part e.id ≡ stored_id m.part m.id → own_octets e ≡ own_octets m
 unfolding own_octets
 same_own e m at lacks octet id = rw (octet, at, id, lacks) refl
 
@@ -161,8 +163,8 @@ pub goes_on : (C : Table) (m : Message) (fixed frames octets : List ℕ) (at oct
     → ((n : ℕ) (rest : List ℕ) → drop 0 fixed ≡ n ∷ rest → octet ≡ n) → octets ≡ drop 16 fixed
     → version ≡ minor m.header
     → ((d : Decoder) (p : Part) → FitsPart C version at d p → part_octet p ≡ octet
-    → PartStored d p octets frames → IsSomeAnd r (λ q. GoesOn C d p q.1 q.0))
-    → IsSomeAnd r (λ q. GoesOn C m.decoder m.part q.1 q.0)
+    → PartStored d p octets frames → IsSomeAnd r (λ q. PartGoesOn C d p q.1 q.0))
+    → IsSomeAnd r (λ q. PartGoesOn C m.decoder m.part q.1 q.0)
 goes_on C m fixed frames octets at octet version r fits stored at_read octet_read octets_read same
     again =
     let fields = own_fields m fixed stored.own in
@@ -170,7 +172,7 @@ goes_on C m fixed frames octets at octet version r fits stored at_read octet_rea
     let octet_is = sym (octet_read _ _ fields.part) in
     again m.decoder m.part (rw (at_is, same) fits) octet_is (rw octets_read stored.part)
 
-pub same_place : (C : Table) (d e : Decoder) (p q : Part) → GoesOn C d p e q →
+pub same_place : (C : Table) (d e : Decoder) (p q : Part) → PartGoesOn C d p e q →
     in_header q ≡ in_header p
 same_place C d e (parts.Typed section) (parts.Typed other) on = rw on.0 refl
 same_place C d e (parts.Padding body_type_id) (parts.Padding other) on = refl
@@ -182,18 +184,19 @@ cond_again true x y = refl
 cond_again false x y = refl
 
 -- If what was stored of the request id is stored again, it is the same.
-pub kept_again : (C : Table) (d e : Decoder) (p q : Part) (id : Option ℕ) → GoesOn C d p e q
-    → kept_id q (kept_id p id) ≡ kept_id p id
+pub kept_again : (C : Table) (d e : Decoder) (p q : Part) (id : Option ℕ) → PartGoesOn C d p e q
+    → stored_id q (stored_id p id) ≡ stored_id p id
 kept_again C d e p q id on = search (arith, same_place, cond_again)
 
 pub id_on : (C : Table) (d e : Decoder) (p q : Part) (id given said : Option ℕ) →
-    GoesOn C d p e q
-    → given ≡ kept_id p id → id ≡ kept_id p said → given ≡ kept_id q said
+    PartGoesOn C d p e q
+    → given ≡ stored_id p id → id ≡ stored_id p said → given ≡ stored_id q said
 id_on C d e p q id given said on is was = search (arith, cond_again, said, cond, same_place)
 
 pub stands_on : (C : Table) (answers : Answers) (phase : Phase) (number : ℕ) (header s : List ℕ)
-    (d e : Decoder) (p q : Part) → GoesOn C d p e q → Stands C answers phase number header s d p →
-    Stands C answers phase number header s e q
+    (d e : Decoder) (p q : Part) → PartGoesOn C d p e q →
+    PartFollows C answers phase number header s d p →
+    PartFollows C answers phase number header s e q
 stands_on C answers phase number header s d e (parts.Typed section) (parts.Typed other) on is =
     search (arith)
 stands_on C answers phase number header s d e (parts.Padding body_type_id)

@@ -17,7 +17,7 @@ pub record TakesFront {A E : Type 0} (count : A → ℕ) (before reached : List 
 
 -- If a correspondent in this state isn't due, it isn't due either after it was told what ends in
 -- these octets.
-abbrev pub StaysUndue : {St : Type 0} → (St → Bool) → (St → CallEvent → St) → Table → St →
-    (List ℕ → List HeaderEnd) → List ℕ → Type 0
-StaysUndue due notified C st ends octets =
-    due st ≡ false → due (after_ends notified C st (ends octets)) ≡ false
+abbrev pub StaysUndue : {St : Type 0} (due : St → Bool) (notified : St → CallEvent → St) (C : Table)
+    (state : St) (ends : List ℕ → List HeaderEnd) (octets : List ℕ) → Type 0
+StaysUndue due notified C state ends octets =
+    due state ≡ false → due (after_ends notified C state (ends octets)) ≡ false

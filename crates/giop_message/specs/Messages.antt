@@ -10,7 +10,7 @@ use Rattle.giop_sig.specs.Types.{Ty, Struct}
 use Rattle.giop_decode.specs.declared.progress.ValueFault.{ValueFault}
 use Rattle.giop_decode.specs.ReadResult.{Coding, PathSegment, Value, ValueAt, OpenPart, Leaf, Read, Done, Short, Fault}
 use Rattle.giop_decode.specs.Reading.{reading}
-use Rattle.giop_decode.specs.Noted.{Noted, nothing_noted, note, noted, ends_operation, is_header_root}
+use Rattle.giop_decode.specs.Noted.{Noted, nothing_noted, note_line, note_lines, ends_operation, is_header_root}
 use Rattle.giop_message.specs.declared.part.Section.{Section}
 use Rattle.giop_message.specs.declared.part.Section.TheVariants as sections
 use Rattle.giop_message.specs.Headers.{minor, kind, order}
@@ -36,7 +36,7 @@ pub record LineAt : Type 0 where
   pub at : ℕ
   pub message_line : MessageLine
 
-unfoldable pub line_at : ℕ → MessageLine → LineAt
+unfoldable pub line_at : (offset : ℕ) (message_line : MessageLine) → LineAt
 line_at at message_line = record { at = at; message_line = message_line }
 
 -- What can end in a message without a line of its own: the header, with what is noted of it; and
@@ -51,47 +51,51 @@ pub record Said : Type 0 where
   pub lines : List LineAt
   pub marks : List Mark
 
-abbrev pub only_lines : List LineAt → Said
+abbrev pub only_lines : (lines : List LineAt) → Said
 only_lines lines = record { lines = lines; marks = [] }
 
 abbrev pub nothing_said : Said
 nothing_said = only_lines []
 
 -- a printable octet of ASCII other than the space
-abbrev pub is_graphic : ℕ → Bool
+abbrev pub is_graphic : (octet : ℕ) → Bool
 is_graphic octet = nat_le 33 octet && nat_le octet 126
 
 -- whether a call line can show an operation; a name that is noted has at most 128 octets
-unfoldable pub is_shown : List ℕ → Bool
-is_shown name = nat_lt 0 (length name) && list_all is_graphic name
+unfoldable pub is_graphic_name : (name : List ℕ) → Bool
+is_graphic_name name = nat_lt 0 (length name) && list_all is_graphic name
 
-unfoldable pub call_of : ℕ → Option ℕ → Option (List ℕ) → Option (List ℕ) → List LineAt
-call_of at (Some id) (Some name) interface =
-    if is_shown name then line_at at (CallLine id name interface) ∷ [] else []
-call_of at id name interface = []
+unfoldable pub call_line_if_named : (offset : ℕ) (id : Option ℕ) (name interface : Option
+    (List ℕ)) →
+    List LineAt
+call_line_if_named at (Some id) (Some name) interface =
+    if is_graphic_name name then line_at at (CallLine id name interface) ∷ [] else []
+call_line_if_named at id name interface = []
 
 -- what the call lines of a section are made from: whether the section is a Request's header, and
 -- which interface an object key has
-pub record Calling : Type 0 where
+pub record CallSource : Type 0 where
   pub is_request : Bool
   pub interface : Option (List ℕ) → Option (List ℕ)
 
 -- the section has no call
-abbrev pub no_calls : Calling
+abbrev pub no_calls : CallSource
 no_calls = record { is_request = false; interface = λ key. None }
 
 -- The call line comes after the line that ends the operation of a Request.
-unfoldable pub calls : Calling → ValueAt → Noted → List LineAt
-calls calling l h =
+unfoldable pub call_lines_after : (calling : CallSource) (line : ValueAt) (noted : Noted) →
+    List LineAt
+call_lines_after calling l h =
     if ends_operation calling.is_request l
-    then call_of l.at h.request_id h.name (calling.interface h.key) else []
+    then call_line_if_named l.at h.request_id h.name (calling.interface h.key) else []
 
 -- The lines of a reading below a root, if this was noted before them.
-unfoldable pub section_lines : Root → Calling → Noted → List ValueAt → List LineAt
+unfoldable pub section_lines : (root : Root) (calling : CallSource) (noted : Noted)
+    (lines : List ValueAt) → List LineAt
 section_lines root calling h [] = []
 section_lines root calling h (l ∷ ls) =
-    let now = note (is_header_root root) h l in
-    (line_at l.at (ValueLine root l.path l.value) ∷ calls calling l now)
+    let now = note_line (is_header_root root) h l in
+    (line_at l.at (ValueLine root l.path l.value) ∷ call_lines_after calling l now)
     ++ section_lines root calling now ls
 
 -- ---- the stage of a message
@@ -105,7 +109,7 @@ pub data BodyType : Type 0 where
   SystemException : BodyType
 
 -- the root of a section's lines
-abbrev pub root_of : Section → Root
+abbrev pub root_of : (section : Section) → Root
 root_of sections.Header = roots.Header
 root_of sections.Exception = roots.Exception
 root_of sections.SystemException = roots.Body
@@ -125,42 +129,41 @@ pub data MessageReading : Type 0 where
   ReadTo : Said → ℕ → Stage → MessageReading
 
 -- what was said first, and then what was said after it
-abbrev pub said_both : Said → Said → Said
+abbrev pub said_both : (front said : Said) → Said
 said_both front said = record {
   lines = front.lines ++ said.lines;
   marks = front.marks ++ said.marks;
 }
 
-unfoldable pub with_front : Said → MessageReading → MessageReading
+unfoldable pub with_front : (said : Said) (reading : MessageReading) → MessageReading
 with_front front (ReadTo said at stage) = ReadTo (said_both front said) at stage
 
-abbrev pub name_mark : Option (List ℕ) → List Mark
-name_mark None = []
-name_mark (Some name) = NameMark name ∷ []
+abbrev pub name_marks : (name : Option (List ℕ)) → List Mark
+name_marks None = []
+name_marks (Some name) = NameMark name ∷ []
 
 -- The mark at the end of a section, from what is noted of the section. An exception's name is the
 -- last string of its section: the repository id, or the name of a system exception.
-abbrev pub end_mark : Section → Noted → List Mark
-end_mark sections.Header h = HeaderMark h ∷ []
-end_mark sections.Exception h = name_mark h.name
-end_mark sections.SystemException h = name_mark h.name
-end_mark sections.Body h = []
+abbrev pub end_marks : (section : Section) (noted : Noted) → List Mark
+end_marks sections.Header h = HeaderMark h ∷ []
+end_marks sections.Exception h = name_marks h.name
+end_marks sections.SystemException h = name_marks h.name
+end_marks sections.Body h = []
 
 -- A section, and what follows it, from what is noted of the section. A fault has its own line in
 -- the place of the value's line, and ends the message.
-unfoldable pub section_then : Section → Calling → (Noted → ℕ → List ℕ → MessageReading) → Noted →
-    Read →
-    MessageReading
+unfoldable pub section_then : (section : Section) (calling : CallSource)
+    (next : Noted → ℕ → List ℕ → MessageReading) (noted : Noted) (read : Read) → MessageReading
 section_then section calling next h (Done lines at s) =
     let root = root_of section in
-    let now = noted (is_header_root root) h lines in
+    let now = note_lines (is_header_root root) h lines in
     with_front
-    (record { lines = section_lines root calling h lines; marks = end_mark section now })
+    (record { lines = section_lines root calling h lines; marks = end_marks section now })
     (next now at s)
 section_then section calling next h (Short lines at outer leaf) =
     let root = root_of section in
     ReadTo (only_lines (section_lines root calling h lines)) at
-    (In_typed section (noted (is_header_root root) h lines) outer leaf)
+    (In_typed section (note_lines (is_header_root root) h lines) outer leaf)
 section_then section calling next h (Fault lines at why T) =
     ReadTo (only_lines (section_lines (root_of section) calling h lines
     ++ line_at at (FaultLine why) ∷ [])) at Over
@@ -168,64 +171,74 @@ section_then section calling next h (Fault lines at why T) =
 -- ---- the rest
 
 -- the rest in parts of 32 octets; this many parts are full
-unfoldable pub rest_in : ℕ → ℕ → ℕ → List ℕ → MessageReading
-rest_in zero offset at s = ReadTo nothing_said (at + length s) (In_rest offset s)
-rest_in (suc full) offset at s =
-    with_front (only_lines (line_at (at + 32) (RestLine offset (take 32 s)) ∷ []))
-    (rest_in full (offset + 32) (at + 32) (drop 32 s))
+unfoldable pub read_rest_in_parts : (full offset at : ℕ) (octets : List ℕ) → MessageReading
+read_rest_in_parts zero offset at octets = ReadTo nothing_said (at + length octets)
+    (In_rest offset octets)
+read_rest_in_parts (suc full) offset at octets =
+    with_front (only_lines (line_at (at + 32) (RestLine offset (take 32 octets)) ∷ []))
+    (read_rest_in_parts full (offset + 32) (at + 32) (drop 32 octets))
 
-unfoldable pub rest : ℕ → List ℕ → MessageReading
-rest at s = rest_in (length s / 32) 0 at s
+unfoldable pub read_rest : (offset : ℕ) (octets : List ℕ) → MessageReading
+read_rest at octets = read_rest_in_parts (length octets / 32) 0 at octets
 
 -- ---- bodies
 
 -- how the octets of a message's values are taken
-abbrev pub coding_of : Signatures → List ℕ → Coding
+abbrev pub coding_of : (S : Signatures) (header : List ℕ) → Coding
 coding_of S header = record { order = order header; phase = S.phase }
 
-unfoldable pub typed : Coding → Ty → ℕ → List ℕ → MessageReading
-typed coding T at s = section_then sections.Body no_calls (λ h. rest) nothing_noted
-    (reading coding [] T at s)
+unfoldable pub read_typed : (coding : Coding) (T : Ty) (offset : ℕ) (octets : List ℕ) →
+    MessageReading
+read_typed coding T at octets = section_then sections.Body no_calls (λ h. read_rest) nothing_noted
+    (reading coding [] T at octets)
 
-unfoldable pub option_typed : Coding → Option Ty → ℕ → List ℕ → MessageReading
-option_typed coding None at s = rest at s
-option_typed coding (Some T) at s = typed coding T at s
+unfoldable pub read_typed_if_some : (coding : Coding) (T : Option Ty) (offset : ℕ)
+    (octets : List ℕ) →
+    MessageReading
+read_typed_if_some coding None at octets = read_rest at octets
+read_typed_if_some coding (Some T) at octets = read_typed coding T at octets
 
-unfoldable pub members_of : Signatures → List ℕ → Option (List ℕ) → Option Ty
+unfoldable pub members_of : (S : Signatures) (header : List ℕ) (repository : Option (List ℕ)) →
+    Option Ty
 members_of S header None = None
 members_of S header (Some repository) = S.members (minor header) repository
 
 -- the members of the exception whose repository id has come
-unfoldable pub after_exception : Signatures → List ℕ → Noted → ℕ → List ℕ → MessageReading
-after_exception S header h = option_typed (coding_of S header) (members_of S header h.name)
+unfoldable pub read_after_exception : (S : Signatures) (header : List ℕ) (noted : Noted)
+    (offset : ℕ)
+    (octets : List ℕ) → MessageReading
+read_after_exception S header h = read_typed_if_some (coding_of S header)
+    (members_of S header h.name)
 
-unfoldable pub body : Signatures → List ℕ → BodyType → ℕ → List ℕ → MessageReading
-body S header Untyped at s = rest at s
-body S header (Typed T) at s = typed (coding_of S header) T at s
-body S header UserException at s =
-    section_then sections.Exception no_calls (after_exception S header) nothing_noted
-    (reading (coding_of S header) [] S.exception_id at s)
-body S header SystemException at s =
-    section_then sections.SystemException no_calls (λ h. rest) nothing_noted
-    (reading (coding_of S header) [] S.system_exception at s)
+unfoldable pub read_body : (S : Signatures) (header : List ℕ) (body_type : BodyType) (offset : ℕ)
+    (octets : List ℕ) → MessageReading
+read_body S header Untyped at octets = read_rest at octets
+read_body S header (Typed T) at octets = read_typed (coding_of S header) T at octets
+read_body S header UserException at octets =
+    section_then sections.Exception no_calls (read_after_exception S header) nothing_noted
+    (reading (coding_of S header) [] S.exception_id at octets)
+read_body S header SystemException at octets =
+    section_then sections.SystemException no_calls (λ h. read_rest) nothing_noted
+    (reading (coding_of S header) [] S.system_exception at octets)
 
-unfoldable pub type_if : Option Ty → BodyType
-type_if None = Untyped
-type_if (Some T) = Typed T
+unfoldable pub typed_if_some : (type : Option Ty) → BodyType
+typed_if_some None = Untyped
+typed_if_some (Some T) = Typed T
 
 -- the body of a Request, from its operation, which is the last string of its header, and from its
 -- object key
-unfoldable pub request_body : Signatures → List ℕ → Option (List ℕ) → Option (List ℕ) → BodyType
+unfoldable pub request_body : (S : Signatures) (header : List ℕ) (key name : Option (List ℕ)) →
+    BodyType
 request_body S header key None = Untyped
-request_body S header key (Some name) = type_if (S.request (minor header) name key)
+request_body S header key (Some name) = typed_if_some (S.request (minor header) name key)
 
-unfoldable pub result_body : Signatures → List ℕ → Option ℕ → BodyType
+unfoldable pub result_body : (S : Signatures) (header : List ℕ) (id : Option ℕ) → BodyType
 result_body S header None = Untyped
-result_body S header (Some id) = type_if (S.reply (minor header) id)
+result_body S header (Some id) = typed_if_some (S.reply (minor header) id)
 
 -- the body of a Reply, from its status: NO_EXCEPTION, USER_EXCEPTION, SYSTEM_EXCEPTION,
 -- LOCATION_FORWARD, LOCATION_FORWARD_PERM, NEEDS_ADDRESSING_MODE
-unfoldable pub reply_body : Signatures → List ℕ → Option ℕ → Option ℕ → BodyType
+unfoldable pub reply_body : (S : Signatures) (header : List ℕ) (id status : Option ℕ) → BodyType
 reply_body S header id None = Untyped
 reply_body S header id (Some status) =
     if status == 0 then result_body S header id
@@ -235,13 +248,13 @@ reply_body S header id (Some status) =
     else (if status == 5 then Typed S.addressing
     else Untyped))))
 
-unfoldable pub is_request : List ℕ → Bool
+unfoldable pub is_request : (header : List ℕ) → Bool
 is_request header = kind header == 0
 
 -- the body of a LocateReply, from its status: OBJECT_FORWARD, OBJECT_FORWARD_PERM,
 -- LOC_SYSTEM_EXCEPTION, LOC_NEEDS_ADDRESSING_MODE (GIOP Message Formats, LocateReply Body). It
 -- raises nothing, since it answers no call.
-unfoldable pub locate_body : Signatures → Option ℕ → BodyType
+unfoldable pub locate_body : (S : Signatures) (status : Option ℕ) → BodyType
 locate_body S None = Untyped
 locate_body S (Some status) =
     if S.has_locate_bodies then
@@ -253,7 +266,7 @@ locate_body S (Some status) =
 
 -- the body of a message, from what is noted of its header; messages of other types have no typed
 -- body
-unfoldable pub body_of : Signatures → List ℕ → Noted → BodyType
+unfoldable pub body_of : (S : Signatures) (header : List ℕ) (noted : Noted) → BodyType
 body_of S header h =
     if is_request header then request_body S header h.key h.name
     else (if kind header == 1 then reply_body S header h.request_id h.status
@@ -261,75 +274,86 @@ body_of S header h =
     else Untyped))
 
 -- the message is a Request or a Reply of 1.2: its body begins at the next multiple of 8
-unfoldable pub is_aligned : List ℕ → Bool
-is_aligned header = nat_lt (kind header) 2 && (minor header == 2)
+unfoldable pub has_aligned_body : (header : List ℕ) → Bool
+has_aligned_body header = nat_lt (kind header) 2 && (minor header == 2)
 
 -- ---- a message
 
 -- a body after the padding up to the next multiple of 8
-unfoldable pub padded : Signatures → List ℕ → BodyType → ℕ → List ℕ → MessageReading
-padded S header b at s =
-    if nat_lt (length s) (padding at 8) then ReadTo nothing_said (at + length s) (In_padding b)
-    else body S header b (at + padding at 8) (drop (padding at 8) s)
+unfoldable pub read_padding_and_body : (S : Signatures) (header : List ℕ) (body_type : BodyType)
+    (offset : ℕ)
+    (octets : List ℕ) → MessageReading
+read_padding_and_body S header b at octets =
+    if nat_lt (length octets) (padding at 8) then ReadTo nothing_said (at + length octets)
+    (In_padding b)
+    else read_body S header b (at + padding at 8) (drop (padding at 8) octets)
 
-unfoldable pub after_header : Signatures → List ℕ → Noted → ℕ → List ℕ → MessageReading
-after_header S header h at s =
-    if is_aligned header then padded S header (body_of S header h) at s
-    else body S header (body_of S header h) at s
+unfoldable pub read_after_header : (S : Signatures) (header : List ℕ) (noted : Noted) (offset : ℕ)
+    (octets : List ℕ) → MessageReading
+read_after_header S header h at octets =
+    if has_aligned_body header then read_padding_and_body S header (body_of S header h) at octets
+    else read_body S header (body_of S header h) at octets
 
 -- what the call line of a message with this header is made from
-abbrev pub calling_of : Signatures → List ℕ → Calling
-calling_of S header = record { is_request = is_request header; interface = S.interface }
+abbrev pub header_call_source : (S : Signatures) (header : List ℕ) → CallSource
+header_call_source S header = record { is_request = is_request header; interface = S.interface }
 
-unfoldable pub of_header : Signatures → List ℕ → Option Ty → ℕ → List ℕ → MessageReading
-of_header S header None at s = rest at s
-of_header S header (Some T) at s =
-    section_then sections.Header (calling_of S header) (after_header S header) nothing_noted
-    (reading (coding_of S header) [] T at s)
+unfoldable pub read_header_and_rest : (S : Signatures) (header : List ℕ) (T : Option Ty)
+    (offset : ℕ)
+    (octets : List ℕ) → MessageReading
+read_header_and_rest S header None at octets = read_rest at octets
+read_header_and_rest S header (Some T) at octets =
+    section_then sections.Header (header_call_source S header)
+    (read_after_header S header) nothing_noted
+    (reading (coding_of S header) [] T at octets)
 
 -- a message with this header of 12 octets, and these octets after it
-unfoldable pub message : Signatures → List ℕ → List ℕ → MessageReading
-message S header s = of_header S header (S.header (minor header) (kind header)) 12 s
+unfoldable pub read_message : (S : Signatures) (header octets : List ℕ) → MessageReading
+read_message S header octets = read_header_and_rest S header (S.header (minor header)
+    (kind header)) 12 octets
 
 -- what the call lines of a section are made from
-abbrev pub calling : Signatures → List ℕ → Section → Calling
-calling S header sections.Header = calling_of S header
-calling S header sections.Exception = no_calls
-calling S header sections.SystemException = no_calls
-calling S header sections.Body = no_calls
+abbrev pub section_call_source : (S : Signatures) (header : List ℕ) (section : Section) → CallSource
+section_call_source S header sections.Header = header_call_source S header
+section_call_source S header sections.Exception = no_calls
+section_call_source S header sections.SystemException = no_calls
+section_call_source S header sections.Body = no_calls
 
 -- what follows a section, from what is noted of the section
-abbrev pub after : Signatures → List ℕ → Section → Noted → ℕ → List ℕ → MessageReading
-after S header sections.Header = after_header S header
-after S header sections.Exception = after_exception S header
-after S header sections.SystemException = λ h. rest
-after S header sections.Body = λ h. rest
+abbrev pub read_after_section : (S : Signatures) (header : List ℕ) (section : Section)
+    (noted : Noted) (offset : ℕ)
+    (octets : List ℕ) → MessageReading
+read_after_section S header sections.Header = read_after_header S header
+read_after_section S header sections.Exception = read_after_exception S header
+read_after_section S header sections.SystemException = λ h. read_rest
+read_after_section S header sections.Body = λ h. read_rest
 
 -- a section that goes on after this was noted of it, and what follows the section
-abbrev pub section_and_rest : Signatures → List ℕ → Section → Noted → Read → MessageReading
-section_and_rest S header section = section_then section (calling S header section)
-    (after S header section)
+abbrev pub section_and_rest : (S : Signatures) (header : List ℕ) (section : Section) (noted : Noted)
+    (read : Read) → MessageReading
+section_and_rest S header section = section_then section (section_call_source S header section)
+    (read_after_section S header section)
 
 -- ---- the close of a message
 
 -- whether a body needs no octets, so that a message may end in the padding before it
-unfoldable pub body_may_be_missing : BodyType → Bool
+unfoldable pub body_may_be_missing : (body_type : BodyType) → Bool
 body_may_be_missing Untyped = true
 body_may_be_missing (Typed (Struct zero names parts)) = true
 body_may_be_missing b = false
 
-unfoldable pub close : Stage → List MessageLine
-close (In_typed section h outer leaf) = ShortLine ∷ []
-close (In_padding b) = if body_may_be_missing b then EndLine ∷ [] else ShortLine ∷ []
-close (In_rest offset []) = EndLine ∷ []
-close (In_rest offset (x ∷ held)) = RestLine offset (x ∷ held) ∷ EndLine ∷ []
-close Over = EndLine ∷ []
+unfoldable pub lines_of_close : (stage : Stage) → List MessageLine
+lines_of_close (In_typed section h outer leaf) = ShortLine ∷ []
+lines_of_close (In_padding b) = if body_may_be_missing b then EndLine ∷ [] else ShortLine ∷ []
+lines_of_close (In_rest offset []) = EndLine ∷ []
+lines_of_close (In_rest offset (x ∷ held)) = RestLine offset (x ∷ held) ∷ EndLine ∷ []
+lines_of_close Over = EndLine ∷ []
 
-unfoldable pub message_lines : MessageReading → List LineAt
+unfoldable pub message_lines : (reading : MessageReading) → List LineAt
 message_lines (ReadTo said at stage) = said.lines
 
-unfoldable pub message_marks : MessageReading → List Mark
+unfoldable pub message_marks : (reading : MessageReading) → List Mark
 message_marks (ReadTo said at stage) = said.marks
 
-unfoldable pub stage_of : MessageReading → Stage
+unfoldable pub stage_of : (reading : MessageReading) → Stage
 stage_of (ReadTo said at stage) = stage

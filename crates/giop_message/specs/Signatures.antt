@@ -7,9 +7,9 @@ use Rattle.giop_sig.specs.declared.types.OpId.{OpId}
 use Rattle.giop_sig.specs.declared.types.TypeId.{TypeId}
 use Rattle.giop_sig.specs.declared.types.Fixed.TheVariants.{ExceptionId, SystemException, Forward, Addressing}
 use Rattle.giop_sig.specs.Types.{Ty}
-use Rattle.giop_decode.specs.DecoderState.{whose}
+use Rattle.giop_decode.specs.DecoderState.{interface_of_key}
 use Rattle.giop_sig.specs.Table.{Table, in_version, operation_for, operation_at, exception_in, interface_name}
-use Rattle.giop_sig.specs.Trees.{tree, wide_in}
+use Rattle.giop_sig.specs.Trees.{tree, has_wide_text}
 use Rattle.giop_sig.specs.HeaderTypes.{header_type, fixed_type}
 use Rattle.giop_sig.specs.RequestList.{kept_operation}
 use Rattle.giop_message.specs.Phases.{Phase}
@@ -49,32 +49,33 @@ abbrev pub Answers : Type 0
 Answers = ℕ → Answer
 
 -- a request list gives the same answers in each message
-abbrev pub by_list : RequestTable → Answers
+abbrev pub by_list : (request_table : RequestTable) → Answers
 by_list request_table number id = kept_operation request_table id
 
 -- The type of a body. It has none if it has wide text and the message is one of 1.0 or 1.1, in
 -- which the form of wide text isn't certain (CDR Transfer Syntax, Strings and Wide Strings).
-abbrev pub body_tree : Table → ℕ → Option Ty
-body_tree C i = cond (C.narrow && wide_in C.types i) None (Some (tree C i))
+abbrev pub body_tree : (C : Table) (number : ℕ) → Option Ty
+body_tree C number = cond (C.forbids_wide && has_wide_text C.types number) None
+    (Some (tree C number))
 
-abbrev pub request_type : Table → OpId → Option Ty
+abbrev pub request_type : (C : Table) (operation : OpId) → Option Ty
 request_type C o = body_tree C (operation_at C o.0).request
 
-abbrev pub reply_type : Table → OpId → Option Ty
+abbrev pub reply_type : (C : Table) (operation : OpId) → Option Ty
 reply_type C o = body_tree C (operation_at C o.0).reply
 
-abbrev pub members_type : Table → TypeId → Option Ty
+abbrev pub members_type : (C : Table) (type_id : TypeId) → Option Ty
 members_type C t = body_tree C t.0
 
 -- the operation of a Request, from its name and the object key
-abbrev pub called_operation : Table → Option (List ℕ) → List ℕ → Option OpId
-called_operation C key name = operation_for C name (whose C key)
+abbrev pub called_operation : (C : Table) (key : Option (List ℕ)) (name : List ℕ) → Option OpId
+called_operation C key name = operation_for C name (interface_of_key C key)
 
 -- the repository id of the interface of an object key
-abbrev pub interface_of : Table → Option (List ℕ) → Option (List ℕ)
-interface_of C key = option_map (λ i. interface_name C i.0) (whose C key)
+abbrev pub interface_of : (C : Table) (key : Option (List ℕ)) → Option (List ℕ)
+interface_of C key = option_map (λ i. interface_name C i.0) (interface_of_key C key)
 
-unfoldable pub signatures_of : Table → Answer → Phase → Signatures
+unfoldable pub signatures_of : (C : Table) (answer : Answer) (phase : Phase) → Signatures
 signatures_of C answer phase = record {
   phase = phase;
   header = header_type C.version;

@@ -3,28 +3,35 @@ use Rattle.std.specs.Prelude.{ℕ, ◌+◌, List, [], ◌∷◌, ◌++◌, lengt
 use Rattle.giop_cdr.specs.Alignment.{padding}
 use Rattle.giop_decode.specs.ReadingSteps as decoder
 use Rattle.giop_message.specs.Signatures.{Signatures}
-use Rattle.giop_message.specs.Messages.{coding_of, only_lines, nothing_said, line_at, RestLine, Stage, In_typed, In_padding, In_rest, Over, MessageReading, ReadTo, with_front, body, section_and_rest}
+use Rattle.giop_message.specs.Messages.{coding_of, only_lines, nothing_said, line_at, RestLine, Stage, In_typed, In_padding, In_rest, Over, MessageReading, ReadTo, with_front, read_body, section_and_rest}
 
-unfoldable pub rest_step : ℕ → List ℕ → ℕ → MessageReading
+unfoldable pub rest_step : (offset : ℕ) (held : List ℕ) (at : ℕ) → MessageReading
 rest_step offset held at =
     if length held == 32 then ReadTo (only_lines (line_at at (RestLine offset held) ∷ [])) at
     (In_rest (offset + 32) []) else ReadTo nothing_said at (In_rest offset held)
 
 -- The octet is at this offset. After a part that ends, what follows it is read from no octets.
-unfoldable pub message_step : Signatures → List ℕ → ℕ → Stage → ℕ → MessageReading
-message_step S header at (In_typed section h outer leaf) b =
+unfoldable pub message_step : (S : Signatures) (header : List ℕ) (offset : ℕ) (stage : Stage)
+    (octet : ℕ) → MessageReading
+message_step S header at (In_typed section h outer leaf) octet =
     section_and_rest S header section h
-    (decoder.root_step (coding_of S header) [] outer leaf at b)
-message_step S header at (In_padding t) b =
+    (decoder.root_step (coding_of S header) [] outer leaf at octet)
+message_step S header at (In_padding t) octet =
     if nat_lt 1 (padding at 8) then ReadTo nothing_said (at + 1) (In_padding t)
-    else body S header t (at + 1) []
-message_step S header at (In_rest offset held) b = rest_step offset (held ++ b ∷ []) (at + 1)
-message_step S header at Over b = ReadTo nothing_said at Over
+    else read_body S header t (at + 1) []
+message_step S header at (In_rest offset held) octet =
+    rest_step offset (held ++ octet ∷ []) (at + 1)
+message_step S header at Over octet = ReadTo nothing_said at Over
 
-unfoldable pub advance : Signatures → List ℕ → MessageReading → ℕ → MessageReading
-advance S header (ReadTo said at stage) b = with_front said (message_step S header at stage b)
+unfoldable pub read_one_more : (S : Signatures) (header : List ℕ) (reading : MessageReading)
+    (octet : ℕ) →
+    MessageReading
+read_one_more S header (ReadTo said at stage) octet =
+    with_front said (message_step S header at stage octet)
 
 -- a message after these octets
-abbrev pub goes_on : Signatures → List ℕ → MessageReading → List ℕ → MessageReading
-goes_on S header m [] = m
-goes_on S header m (b ∷ t) = goes_on S header (advance S header m b) t
+abbrev pub read_more : (S : Signatures) (header : List ℕ) (reading : MessageReading)
+    (octets : List ℕ) →
+    MessageReading
+read_more S header m [] = m
+read_more S header m (b ∷ t) = read_more S header (read_one_more S header m b) t

@@ -45,47 +45,48 @@ use Rattle.giop_message.specs.MessageState.{in_header}
 -- ---- the octets
 
 -- the octet of a section
-abbrev pub section_octet : Section → ℕ
+abbrev pub section_octet : (section : Section) → ℕ
 section_octet sections.Header = 0
 section_octet sections.Exception = 1
 section_octet sections.SystemException = 5
 section_octet sections.Body = 2
 
 -- the octet of a part
-abbrev pub part_octet : Part → ℕ
+abbrev pub part_octet : (part : Part) → ℕ
 part_octet (parts.Typed section) = section_octet section
 part_octet (parts.Padding body_type_id) = 3
 part_octet (parts.Rest r) = 4
 
 -- After the header has ended, the request id has a field of its own; until then, the decoder has
 -- it.
-abbrev pub kept_id : Part → Option ℕ → Option ℕ
-kept_id part id = cond (in_header part) None id
+abbrev pub stored_id : (part : Part) (id : Option ℕ) → Option ℕ
+stored_id part id = cond (in_header part) None id
 
 -- the 16 octets of the message itself: the part, the offset of the next octet, the request id, and
 -- what the offset lacks
-unfoldable pub own_octets : Message → List ℕ
-own_octets m = part_octet m.part ∷ eight m.at ++ optional (kept_id m.part m.id) ++ m.lacks ∷ 0 ∷ []
+unfoldable pub own_octets : (message : Message) → List ℕ
+own_octets m = part_octet m.part ∷ eight m.at ++ optional (stored_id m.part m.id) ++ m.lacks ∷ 0
+    ∷ []
 
 -- the octets of a body's type: its kind, and its number
-abbrev pub body_type_octets : BodyTypeId → List ℕ
+abbrev pub body_type_octets : (body_type_id : BodyTypeId) → List ℕ
 body_type_octets body_type_ids.Nothing = 0 ∷ four 0
 body_type_octets (body_type_ids.Type of) = 1 ∷ four of.0
 body_type_octets body_type_ids.Exception = 2 ∷ four 0
 body_type_octets body_type_ids.SystemException = 3 ∷ four 0
 
 -- the 208 octets of the padding before such a body
-unfoldable pub padding_octets : BodyTypeId → List ℕ
+unfoldable pub padding_octets : (body_type_id : BodyTypeId) → List ℕ
 padding_octets body_type_id = body_type_octets body_type_id ++ replicate 203 0
 
 -- the 208 octets of a rest: the offset of its last part, and the octets of that part
-unfoldable pub rest_octets : Rest → List ℕ
+unfoldable pub rest_octets : (rest : Rest) → List ℕ
 rest_octets r = eight r.offset ++ held 32 r.held.items ++ replicate 167 0
 
 -- ---- the message that octets store
 
 -- the number of the type fits into its field
-abbrev pub BodyTypeIdHasRange : BodyTypeId → Type 0
+abbrev pub BodyTypeIdHasRange : (body_type_id : BodyTypeId) → Type 0
 BodyTypeIdHasRange body_type_ids.Nothing = Unit {0}
 BodyTypeIdHasRange (body_type_ids.Type of) = of.0 < 2 ^ 32
 BodyTypeIdHasRange body_type_ids.Exception = Unit {0}
@@ -97,28 +98,28 @@ pub record IsPaddingOf (octets : List ℕ) (body_type_id : BodyTypeId) : Type 0 
   pub range : BodyTypeIdHasRange body_type_id
 
 -- these 208 octets are those of a rest
-pub record IsRestOf (octets : List ℕ) (r : Rest) : Type 0 where
-  pub is : octets ≡ rest_octets r
-  pub range : r.offset < 2 ^ 64
+pub record IsRestOf (octets : List ℕ) (rest : Rest) : Type 0 where
+  pub is : octets ≡ rest_octets rest
+  pub range : rest.offset < 2 ^ 64
 
 -- these 16 octets are those of the message itself
-pub record IsOwnOf (octets : List ℕ) (m : Message) : Type 0 where
-  pub is : octets ≡ own_octets m
-  pub at : m.at < 2 ^ 64
-  pub id : IfSome (kept_id m.part m.id) (λ n. n < 2 ^ 32)
+pub record AreOwnOctets (octets : List ℕ) (message : Message) : Type 0 where
+  pub is : octets ≡ own_octets message
+  pub at : message.at < 2 ^ 64
+  pub id : IfSome (stored_id message.part message.id) (λ n. n < 2 ^ 32)
 
 -- a part, with its decoder if it is a section, is stored in these 208 octets and these frames; only
 -- a decoder has frames
-abbrev pub PartStored : Decoder → Part → List ℕ → List ℕ → Type 0
+abbrev pub PartStored : (decoder : Decoder) (part : Part) (octets frames : List ℕ) → Type 0
 PartStored d (parts.Typed section) octets frames = decoders.Stored d octets frames
 PartStored d (parts.Padding body_type_id) octets frames =
     IsPaddingOf octets body_type_id × (frames ≡ [])
 PartStored d (parts.Rest r) octets frames = IsRestOf octets r × (frames ≡ [])
 
 -- These 224 octets and these frames are what is stored of the message.
-pub record Stored (m : Message) (fixed frames : List ℕ) : Type 0 where
-  pub own : IsOwnOf (take 16 fixed) m
-  pub part : PartStored m.decoder m.part (drop 16 fixed) frames
+pub record Stored (message : Message) (fixed frames : List ℕ) : Type 0 where
+  pub own : AreOwnOctets (take 16 fixed) message
+  pub part : PartStored message.decoder message.part (drop 16 fixed) frames
 
 -- ---- a part that goes on in the place of another
 
@@ -132,8 +133,9 @@ pub record ReadsOn (C : Table) (d e : Decoder) : Type 0 where
       decoder.Reads C T coding at message root d s → decoder.Reads C T coding at message root e s
 
 -- the other part, with its decoder, goes on in the place of this one
-abbrev pub GoesOn : Table → Decoder → Part → Decoder → Part → Type 0
-GoesOn C d (parts.Typed section) e (parts.Typed other) = (other ≡ section) × ReadsOn C d e
-GoesOn C d (parts.Padding body_type_id) e (parts.Padding other) = other ≡ body_type_id
-GoesOn C d (parts.Rest r) e (parts.Rest other) = IsSameRest other r
-GoesOn C d part e other = ⊥
+abbrev pub PartGoesOn : (C : Table) (decoder : Decoder) (part : Part) (other_decoder : Decoder)
+    (other : Part) → Type 0
+PartGoesOn C d (parts.Typed section) e (parts.Typed other) = (other ≡ section) × ReadsOn C d e
+PartGoesOn C d (parts.Padding body_type_id) e (parts.Padding other) = other ≡ body_type_id
+PartGoesOn C d (parts.Rest r) e (parts.Rest other) = IsSameRest other r
+PartGoesOn C d part e other = ⊥

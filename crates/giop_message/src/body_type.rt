@@ -11,7 +11,7 @@ ghost use Rattle.giop_message.specs.Signatures.{Answer, body_tree, request_type,
 ghost use Rattle.giop_decode.specs.ReadResult.{Read};
 ghost use Rattle.giop_decode.specs.Noted.{noted_of, is_header_root};
 ghost use Rattle.giop_decode.specs.DecoderState.{KeepsNoted};
-ghost use Rattle.giop_message.specs.Messages.{Typed, root_of, body_may_be_missing, members_of, type_if, result_body, reply_body, locate_body};
+ghost use Rattle.giop_message.specs.Messages.{Typed, root_of, body_may_be_missing, members_of, typed_if_some, result_body, reply_body, locate_body};
 ghost use Rattle.giop_message.specs.MessageState.{AreKnown, IsKnown, body_type, is_header};
 ghost use Rattle.giop_message.specs.HeaderEnds.{IsKnownOperation, operation_of};
 ghost use Rattle.giop_message.specs.MessageSteps.{body_type_after};
@@ -100,11 +100,11 @@ fn header_body<Q: Correspondent>(
 }
 
 /// The type of an exception's members, from its repository id.
-#[tactic(auto, unfolding(crate::specs::Messages::members_of, crate::specs::Messages::type_if, crate::specs::Signatures::signatures_of))]
+#[tactic(auto, unfolding(crate::specs::Messages::members_of, crate::specs::Messages::typed_if_some, crate::specs::Signatures::signatures_of))]
 fn members_body(catalogue: &Catalogue, header: &[u8], repository: Option<&[u8]>) -> BodyTypeId
     requires { length header.now ≡ 12 }
     ensures is { (answer : Answer) (phase : Phase) →
-        body_type (in_version (minor header.now) catalogue.now) result ≡ type_if (members_of
+        body_type (in_version (minor header.now) catalogue.now) result ≡ typed_if_some (members_of
         (signatures_of catalogue.now answer phase) header.now
         (option_map (λ x. x.now) repository.entry)) }
     ensures known { IsKnown catalogue.now result }
@@ -113,28 +113,28 @@ fn members_body(catalogue: &Catalogue, header: &[u8], repository: Option<&[u8]>)
         return BodyTypeId::Nothing;
     };
     match catalogue.exception(repository) {
-        Some(of) => readable(catalogue, header, of),
+        Some(of) => body_unless_wide(catalogue, header, of),
         None => BodyTypeId::Nothing,
     }
 }
 
 /// The type of a Request's body, from its operation.
-#[tactic(auto, unfolding(crate::specs::Messages::type_if))]
+#[tactic(auto, unfolding(crate::specs::Messages::typed_if_some))]
 fn request_body(catalogue: &Catalogue, header: &[u8], operation: Option<OpId>) -> BodyTypeId
     requires header { length header.now ≡ 12 }
     requires operation { IsKnownOperation catalogue.now operation }
-    ensures is { body_type (in_version (minor header.now) catalogue.now) result ≡ type_if
+    ensures is { body_type (in_version (minor header.now) catalogue.now) result ≡ typed_if_some
         (option_and_then (request_type (in_version (minor header.now) catalogue.now)) operation) }
     ensures known { IsKnown catalogue.now result }
 {
     match operation {
-        Some(operation) => readable(catalogue, header, catalogue.request_of(operation)),
+        Some(operation) => body_unless_wide(catalogue, header, catalogue.request_of(operation)),
         None => BodyTypeId::Nothing,
     }
 }
 
 /// The type of a Reply's results, from its request id.
-#[tactic(auto, unfolding(crate::specs::Messages::result_body, crate::specs::Messages::type_if, crate::specs::Signatures::signatures_of))]
+#[tactic(auto, unfolding(crate::specs::Messages::result_body, crate::specs::Messages::typed_if_some, crate::specs::Signatures::signatures_of))]
 fn result_body<Q: Correspondent>(
     catalogue: &Catalogue,
     correspondent: &Q,
@@ -152,7 +152,7 @@ fn result_body<Q: Correspondent>(
         return BodyTypeId::Nothing;
     };
     match correspondent.operation(id) {
-        Some(operation) => readable(catalogue, header, catalogue.reply_of(operation)),
+        Some(operation) => body_unless_wide(catalogue, header, catalogue.reply_of(operation)),
         None => BodyTypeId::Nothing,
     }
 }
@@ -220,11 +220,11 @@ fn locate_body(catalogue: &Catalogue, header: &[u8], status: Option<u32>) -> Bod
 }
 
 /// The body with this type, or none if the type has wide text and the message is one of 1.0 or 1.1.
-fn readable(catalogue: &Catalogue, header: &[u8], of: TypeId) -> BodyTypeId
+fn body_unless_wide(catalogue: &Catalogue, header: &[u8], of: TypeId) -> BodyTypeId
     requires header { length header.now ≡ 12 }
     requires known { of.0 < length catalogue.now.types }
     ensures is { body_type (in_version (minor header.now) catalogue.now) result
-        ≡ type_if (body_tree (in_version (minor header.now) catalogue.now) of.0) }
+        ≡ typed_if_some (body_tree (in_version (minor header.now) catalogue.now) of.0) }
     ensures known { IsKnown catalogue.now result }
 {
     if catalogue.is_narrow(minor_of(header)) && catalogue.has_wide_text(of) {
@@ -251,14 +251,14 @@ pub fn body_may_be_missing(catalogue: &SeenCatalogue<'_>, body_type_id: BodyType
 {
     match body_type_id {
         BodyTypeId::Nothing => true,
-        BodyTypeId::Type(of) => is_empty(catalogue, of),
+        BodyTypeId::Type(of) => is_empty_struct(catalogue, of),
         BodyTypeId::Exception => false,
         BodyTypeId::SystemException => false,
     }
 }
 
 /// Whether a type is the struct without members.
-pub fn is_empty(catalogue: &SeenCatalogue<'_>, of: TypeId) -> bool
+pub fn is_empty_struct(catalogue: &SeenCatalogue<'_>, of: TypeId) -> bool
     requires { of.0 < length catalogue.now.types }
     ensures { result ≡ body_may_be_missing (Typed (tree catalogue.now of.0)) }
 {

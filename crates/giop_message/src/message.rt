@@ -4,7 +4,7 @@
 ghost use Rattle.std.specs.Prelude.{◌≡◌, ◌↔◌, IsTrue, ℕ, ◌+◌, ◌%◌, ◌^◌, ◌<◌, ◌≤◌, true, false, List, [], length, take, IfOk, None};
 ghost use Rattle.giop_print.specs.Output.{Writes};
 
-use crate::begin::{id_behind, idle};
+use crate::begin::{idle_decoder, request_id_after_section};
 use crate::body_type::body_may_be_missing;
 use crate::correspondent::Correspondent;
 use crate::header::minor_of;
@@ -35,20 +35,20 @@ pub struct Message {
 impl Message {
     ghost use Rattle.giop_message.specs.Signatures.{Answers, signatures_of};
     ghost use Rattle.giop_sig.specs.Table.{Table};
-    ghost use Rattle.giop_message.specs.Phases.{Phase, IsCounted, seamed};
-    ghost use Rattle.giop_message.specs.Messages.{message, message_lines, stage_of, close};
+    ghost use Rattle.giop_message.specs.Phases.{Phase, IsShiftedFrom, seamed};
+    ghost use Rattle.giop_message.specs.Messages.{read_message, message_lines, stage_of, lines_of_close};
     ghost use Rattle.giop_message.specs.MessageSteps.{last_rest_text, TookSome};
     ghost use Rattle.giop_message.specs.ReaderOfTable.{first_request_id};
     ghost use Rattle.giop_message.specs.HeaderEnds.{AgreesAtEnds, header_ends, after_ends};
     ghost use Rattle.giop_message.specs.DueOctets.{TakesFront, StaysUndue};
-    ghost use Rattle.giop_message.specs.MessageState.{AreKnown, Fits, Follows, due_text, reach, closing_text, is_short};
+    ghost use Rattle.giop_message.specs.MessageState.{AreKnown, Fits, Follows, more_lines_text, octets_taken, closing_text, is_short_close};
 
     /// A message with this number, whose header has come.
     pub fn start(catalogue: &Catalogue, number: u64, header: [u8; 12]) -> Message
-        ensures follows { (answers : Answers) (phase : Phase) → IsCounted phase 0 12 →
+        ensures follows { (answers : Answers) (phase : Phase) → IsShiftedFrom phase 0 12 →
             Follows catalogue.now answers phase number header result [] }
         ensures fits { Fits catalogue.now result }
-        ensures reach { reach result ≡ 12 }
+        ensures reach { octets_taken result ≡ 12 }
     {
         let mut message = Message {
             number,
@@ -57,7 +57,7 @@ impl Message {
             at: 12,
             lacks: 0,
             part: Part::Rest(Rest::new()),
-            decoder: idle(catalogue),
+            decoder: idle_decoder(catalogue),
         };
         message.restart(catalogue, number, header);
         message
@@ -76,7 +76,7 @@ impl Message {
     ) -> Result<(usize, bool), OutFault>
         requires fits { Fits catalogue.now self.old }
         requires known { AreKnown catalogue.now (Q.answer (Q.state correspondent.old)) }
-        requires before { reach self.old ≤ place }
+        requires before { octets_taken self.old ≤ place }
         requires limit { place + length octets.now ≤ 2 ^ 48 }
         ensures known { AreKnown catalogue.now (Q.answer (Q.state correspondent.new)) }
         // Let `answers` give the operations that the ids of each message answer, and let it agree
@@ -88,7 +88,7 @@ impl Message {
             (header_ends phase number header s octets.now) →
             TakesFront (λ went. went.0) (StaysUndue Q.due Q.notified catalogue.now
             (Q.state correspondent.old) (header_ends phase number header s))
-            (λ xs. Writes result (O.log out.old) (O.log out.new) (due_text
+            (λ xs. Writes result (O.log out.old) (O.log out.new) (more_lines_text
             (signatures_of catalogue.now (answers number) phase) number place header s xs))
             result octets.now }
         // the message follows its old octets and these;
@@ -117,7 +117,8 @@ impl Message {
         ensures some { 0 < length octets.now → IfOk result (λ went. 0 < went.0) }
         ensures within { IfOk result (λ went. went.0 ≤ length octets.now) }
         ensures fits { IfOk result (λ went. went.1 ≡ false → Fits catalogue.now self.new) }
-        ensures reach { IfOk result (λ went. reach self.new ≡ reach self.old + went.0) }
+        ensures reach { IfOk result (λ went. octets_taken self.new
+            ≡ octets_taken self.old + went.0) }
     {
         let mut taken: usize = 0;
         while taken < octets.len() {
@@ -148,7 +149,7 @@ impl Message {
             (header s : List ℕ) → Follows C answers phase number header self.old s →
             Follows C answers (seamed phase (12 + length s)) number header self.new s }
         ensures fits { (C : Table) → Fits C self.old → Fits C self.new }
-        ensures reach { reach self.new ≡ reach self.old }
+        ensures reach { octets_taken self.new ≡ octets_taken self.old }
     {
         self.lacks = ((12 - self.at % 8) % 8) as u8;
         self.decoder.seam();
@@ -175,19 +176,20 @@ impl Message {
         requires fits { Fits catalogue.now self.now }
         ensures writes { (answers : Answers) (phase : Phase) (number : ℕ) (header s : List ℕ) →
             Follows catalogue.now answers phase number header self.now s →
-            Writes result (O.log out.old) (O.log out.new) (closing_text number place (close
-            (stage_of (message (signatures_of catalogue.now (answers number) phase) header s)))) }
+            Writes result (O.log out.old) (O.log out.new) (closing_text number place (lines_of_close
+            (stage_of (read_message (signatures_of catalogue.now
+            (answers number) phase) header s)))) }
         ensures short { IfOk result (λ short. (answers : Answers) (phase : Phase)
             (number : ℕ) (header s : List ℕ) →
             Follows catalogue.now answers phase number header self.now s →
-            short ≡ is_short (close (stage_of (message
+            short ≡ is_short_close (lines_of_close (stage_of (read_message
             (signatures_of catalogue.now (answers number) phase) header s)))) }
     {
         if self.is_short(catalogue) {
             fault_line(out, self.number, "short", place)?;
             return Ok(true);
         }
-        self.last_rest(out)?;
+        self.write_last_rest(out)?;
         end_line(out, self.number)?;
         Ok(false)
     }
@@ -198,7 +200,7 @@ impl Message {
         requires { Fits catalogue.now self.now }
         ensures { (answers : Answers) (phase : Phase) (number : ℕ) (header s : List ℕ) →
             Follows catalogue.now answers phase number header self.now s →
-            result ≡ is_short (close (stage_of (message
+            result ≡ is_short_close (lines_of_close (stage_of (read_message
             (signatures_of catalogue.now (answers number) phase) header s))) }
     {
         match &self.part {
@@ -211,14 +213,14 @@ impl Message {
     }
 
     /// Writes the last part of the rest, if it has octets.
-    fn last_rest<O: Out>(&self, out: &mut O) -> Result<(), OutFault>
+    fn write_last_rest<O: Out>(&self, out: &mut O) -> Result<(), OutFault>
         ensures { Writes result (O.log out.old) (O.log out.new)
             (last_rest_text self.now.number self.now.part) }
     {
         match &self.part {
             Part::Typed(_) => Ok(()),
             Part::Padding(_) => Ok(()),
-            Part::Rest(rest) => rest.end(self.number, out),
+            Part::Rest(rest) => rest.write_held(self.number, out),
         }
     }
 
@@ -241,10 +243,10 @@ impl Message {
         ensures { (C : Table) (answers : Answers) (phase : Phase) (number : ℕ) (header s : List ℕ) →
             Follows C answers phase number header self.now s
             → result ≡ first_request_id (message_lines
-            (message (signatures_of C (answers number) phase) header s)) }
+            (read_message (signatures_of C (answers number) phase) header s)) }
     {
         match &self.part {
-            Part::Typed(section) => id_behind(*section, &self.decoder, self.id),
+            Part::Typed(section) => request_id_after_section(*section, &self.decoder, self.id),
             Part::Padding(_) => self.id,
             Part::Rest(_) => self.id,
         }

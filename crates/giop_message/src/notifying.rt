@@ -10,13 +10,13 @@ ghost use Rattle.giop_decode.specs.Noted.{noted_of, is_header_root};
 ghost use Rattle.giop_decode.specs.DecoderState.{KeepsNoted};
 ghost use Rattle.giop_message.specs.Messages.{root_of};
 ghost use Rattle.giop_message.specs.MessageState.{AreKnown, is_header};
-ghost use Rattle.giop_message.specs.HeaderEnds.{IsKnownOperation, after_event, header_event, operation_of, expects_reply, shown, request_event, reply_event, raise_event};
+ghost use Rattle.giop_message.specs.HeaderEnds.{IsKnownOperation, after_event, header_event, operation_of, expects_reply, shown_name, request_event, reply_event, raise_event};
 ghost use Rattle.giop_message.specs.MessageSteps.{section_event};
 
 use crate::correspondent::Correspondent;
 use crate::header::kind_of;
 use crate::part::Section;
-use crate::word::is_shown;
+use crate::word::is_graphic_name;
 use giop_decode::Decoder;
 use giop_print::Root;
 use giop_sig::{Catalogue, OpId};
@@ -144,7 +144,13 @@ fn notify_of_request<Q: Correspondent>(
         return;
     };
     let expects_reply = expects_reply(decoder);
-    correspondent.on_call(number, id, shown(decoder.name()), operation, expects_reply);
+    correspondent.on_call(
+        number,
+        id,
+        shown_name(decoder.name()),
+        operation,
+        expects_reply,
+    );
 }
 
 /// Tells the correspondent of a Reply: the id that it answers.
@@ -169,19 +175,19 @@ fn notify_of_exception<Q: Correspondent>(correspondent: &mut Q, number: u64, dec
         Q.state correspondent.new ≡ after_event Q.notified (Q.state correspondent.old)
         (raise_event number (noted_of (is_header_root root) r).name) }
 {
-    if let Some(name) = shown(decoder.name()) {
+    if let Some(name) = shown_name(decoder.name()) {
         correspondent.on_exception(number, name);
     }
 }
 
 /// The name, if a call line can show it.
-fn shown(name: Option<&[u8]>) -> Option<&[u8]>
-    ensures { option_map (λ x. x.now) result ≡ shown (option_map (λ x. x.now) name.entry) }
+fn shown_name(name: Option<&[u8]>) -> Option<&[u8]>
+    ensures { option_map (λ x. x.now) result ≡ shown_name (option_map (λ x. x.now) name.entry) }
 {
     let Some(name) = name else {
         return None;
     };
-    if is_shown(name) {
+    if is_graphic_name(name) {
         return Some(name);
     }
     None

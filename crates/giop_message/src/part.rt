@@ -109,7 +109,7 @@ impl Rest {
     }
 
     /// Writes the last part, if it has octets.
-    pub(crate) fn end<O: Out>(&self, number: u64, out: &mut O) -> Result<(), OutFault>
+    pub(crate) fn write_held<O: Out>(&self, number: u64, out: &mut O) -> Result<(), OutFault>
         ensures { Writes result (O.log out.old) (O.log out.new)
             (held_text number self.now.offset self.now.held.items) }
     {

@@ -11,7 +11,7 @@ ghost use Rattle.giop_message.specs.Text.{numbered_line};
 ghost use Rattle.giop_message.specs.Phases.{Phase};
 ghost use Rattle.giop_message.specs.Signatures.{Answers};
 ghost use Rattle.giop_message.specs.ReaderOfTable.{message_reader};
-ghost use Rattle.giop_message.specs.RequestId.{request_id_text, request_id_said};
+ghost use Rattle.giop_message.specs.RequestId.{request_id_text, request_id_timed_line};
 
 use giop_cdr::{Number, Prim};
 use giop_print::{Line, Out, OutFault, Path, Position, Root, Value, value_line};
@@ -29,7 +29,7 @@ pub fn request_id_laws()
         (number : ℕ) (header : List ℕ) (T : Ty) →
         header_type 1 (minor header) (kind header) ≡ Some T → BeginsWithId T → phase 12 % 4 ≡ 0 →
         (a b c d : ℕ) → (message_reader C answers).reads phase number header (a ∷ b ∷ c ∷ d ∷ [])
-        ≡ request_id_said (num (order header) (a ∷ b ∷ c ∷ d ∷ [])) ∷ [] }
+        ≡ request_id_timed_line (num (order header) (a ∷ b ∷ c ∷ d ∷ [])) ∷ [] }
 {}
 
 /// Where the request id of a message stands.

@@ -5,7 +5,7 @@ ghost use Rattle.std.specs.Prelude.{◌≡◌, ℕ, ◌+◌, ◌<◌, ◌≤◌,
 ghost use Rattle.std.specs.Option.{IsSomeAnd};
 ghost use Rattle.giop_sig.specs.Table.{Table};
 
-use crate::begin::idle;
+use crate::begin::idle_decoder;
 use crate::body_type::BodyTypeId;
 use crate::header::minor_of;
 use crate::message::Message;
@@ -23,14 +23,14 @@ fn same(octets: &[u8], others: &[u8]) -> bool
 }
 
 /// Whether this is an offset after a message's header.
-fn is_after_header(at: u64) -> bool
-    ensures { IsTrue result ↔ (12 ≤ at) }
+fn is_after_header(offset: u64) -> bool
+    ensures { IsTrue result ↔ (12 ≤ offset) }
 {
-    at >= 12
+    offset >= 12
 }
 
 /// Whether an offset can lack this of what padding is counted by, modulo 8.
-fn is_lack(lacks: u8) -> bool
+fn is_possible_lack(lacks: u8) -> bool
     ensures { IsTrue result ↔ (lacks < 8) }
 {
     lacks < 8
@@ -38,10 +38,10 @@ fn is_lack(lacks: u8) -> bool
 
 /// Whether a message that has taken `at` octets can have a rest with this many octets before its
 /// last part, and this many in it.
-fn is_rest(offset: u64, held: usize, at: u64) -> bool
-    ensures { IsTrue result ↔ (held < 32) × (offset + held ≤ at) }
+fn can_have_rest(offset: u64, held: usize, octets_taken: u64) -> bool
+    ensures { IsTrue result ↔ (held < 32) × (offset + held ≤ octets_taken) }
 {
-    held < 32 && offset <= at && held as u64 <= at - offset
+    held < 32 && offset <= octets_taken && held as u64 <= octets_taken - offset
 }
 
 impl BodyTypeId {
@@ -57,7 +57,7 @@ impl BodyTypeId {
         ensures again { (w : BodyType) → IsKnown catalogue.now w → IsPaddingOf octets.now w →
             result ≡ Some w }
     {
-        let body_type_id = BodyTypeId::parsed(octets);
+        let body_type_id = BodyTypeId::from_octets_unchecked(octets);
         if !body_type_id.is_known(catalogue) {
             return None;
         }
@@ -68,7 +68,7 @@ impl BodyTypeId {
     }
 
     /// The type of a body that these octets stand for. The octets aren't checked.
-    fn parsed(octets: &[u8; 208]) -> BodyTypeId
+    fn from_octets_unchecked(octets: &[u8; 208]) -> BodyTypeId
         ensures { (w : BodyType) → IsPaddingOf octets.now w → result ≡ w }
     {
         match octets[0] {
@@ -106,7 +106,7 @@ impl Rest {
     {
         let offset = eight_at(octets, 0);
         let held: ArrayVec<u8, 32> = held_at(octets, 8);
-        if !is_rest(offset, held.len(), at) {
+        if !can_have_rest(offset, held.len(), at) {
             return None;
         }
         let rest = Rest { offset, held };
@@ -121,7 +121,7 @@ impl Part {
     ghost use Rattle.giop_message.specs.declared.part.Part.{Part as StoredPart};
     ghost use Rattle.giop_decode.specs.declared.decoder.Decoder.{Decoder as StoredDecoder};
     ghost use Rattle.giop_message.specs.MessageState.{FitsPart};
-    ghost use Rattle.giop_message.specs.Stored.{section_octet, part_octet, PartStored, GoesOn};
+    ghost use Rattle.giop_message.specs.Stored.{section_octet, part_octet, PartStored, PartGoesOn};
 
     /// The part that was stored in these octets and frames, if the message has taken `at` octets
     /// and this octet stands for the part. It is None if these octets store no part of such a
@@ -140,7 +140,7 @@ impl Part {
         ensures again { (d : StoredDecoder) (p : StoredPart) →
             FitsPart catalogue.now minor at d p → part_octet p ≡ octet →
             PartStored d p octets.now frames.now →
-            IsSomeAnd result (λ other. GoesOn catalogue.now d p other.1 other.0) }
+            IsSomeAnd result (λ other. PartGoesOn catalogue.now d p other.1 other.0) }
     {
         match octet {
             0 => Part::restore_typed(catalogue, Section::Header, octets, frames, minor),
@@ -167,7 +167,7 @@ impl Part {
         ensures again { (at : ℕ) (d : StoredDecoder) (p : StoredPart) →
             FitsPart catalogue.now minor at d p → part_octet p ≡ section_octet section →
             PartStored d p octets.now frames.now →
-            IsSomeAnd result (λ other. GoesOn catalogue.now d p other.1 other.0) }
+            IsSomeAnd result (λ other. PartGoesOn catalogue.now d p other.1 other.0) }
     {
         let Some(decoder) = Decoder::restore(catalogue, octets, frames, minor) else {
             return None;
@@ -188,7 +188,7 @@ impl Part {
         ensures again { (version at : ℕ) (d : StoredDecoder) (p : StoredPart) →
             FitsPart catalogue.now version at d p → part_octet p ≡ 3 →
             PartStored d p octets.now frames.now →
-            IsSomeAnd result (λ other. GoesOn catalogue.now d p other.1 other.0) }
+            IsSomeAnd result (λ other. PartGoesOn catalogue.now d p other.1 other.0) }
     {
         let Some(body_type_id) = BodyTypeId::restore(catalogue, octets) else {
             return None;
@@ -196,7 +196,7 @@ impl Part {
         if !frames.is_empty() {
             return None;
         }
-        Some((Part::Padding(body_type_id), idle(catalogue)))
+        Some((Part::Padding(body_type_id), idle_decoder(catalogue)))
     }
 
     /// The rest that was stored in these octets. It has no frames.
@@ -212,7 +212,7 @@ impl Part {
         ensures octet { IfSome result (λ p. part_octet p.0 ≡ 4) }
         ensures again { (C : Table) (version : ℕ) (d : StoredDecoder) (p : StoredPart) →
             FitsPart C version at d p → part_octet p ≡ 4 → PartStored d p octets.now frames.now →
-            IsSomeAnd result (λ other. GoesOn C d p other.1 other.0) }
+            IsSomeAnd result (λ other. PartGoesOn C d p other.1 other.0) }
     {
         let Some(rest) = Rest::restore(octets, at) else {
             return None;
@@ -220,7 +220,7 @@ impl Part {
         if !frames.is_empty() {
             return None;
         }
-        Some((Part::Rest(rest), idle(catalogue)))
+        Some((Part::Rest(rest), idle_decoder(catalogue)))
     }
 }
 
@@ -258,7 +258,7 @@ impl Message {
             return None;
         }
         let lacks = octet_at(fixed, 14);
-        if !is_lack(lacks) {
+        if !is_possible_lack(lacks) {
             return None;
         }
         let octets: [u8; 208] = octets_at(fixed, 16);

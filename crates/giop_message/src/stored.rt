@@ -114,12 +114,12 @@ impl Part {
 }
 
 impl Message {
-    ghost use Rattle.giop_message.specs.MessageState.{Fits, reach};
-    ghost use Rattle.giop_message.specs.Stored.{kept_id, IsOwnOf, Stored};
+    ghost use Rattle.giop_message.specs.MessageState.{Fits, octets_taken};
+    ghost use Rattle.giop_message.specs.Stored.{stored_id, AreOwnOctets, Stored};
 
     /// How many of its octets the message has taken, with the 12 of its header.
-    pub fn reach(&self) -> u64
-        ensures { result ≡ reach self.now }
+    pub fn octets_taken(&self) -> u64
+        ensures { result ≡ octets_taken self.now }
     {
         self.at
     }
@@ -148,12 +148,12 @@ impl Message {
     /// The 16 octets of the message itself.
     #[tactic(auto, unfolding(crate::specs::Stored::own_octets))]
     pub(crate) fn own_octets(&self) -> [u8; 16]
-        ensures { IsOwnOf result self.now }
+        ensures { AreOwnOctets result self.now }
     {
         let mut out: ArrayVec<u8, 16> = ArrayVec::new();
         out.push(self.part.octet());
         put_eight(&mut out, self.at);
-        put_optional(&mut out, self.kept_id());
+        put_optional(&mut out, self.stored_id());
         out.push(self.lacks);
         out.push(0);
         let mut octets = [0; 16];
@@ -162,8 +162,8 @@ impl Message {
     }
 
     /// The request id, unless the header's decoder still has it.
-    fn kept_id(&self) -> Option<u32>
-        ensures { result ≡ kept_id self.now.part self.now.id }
+    fn stored_id(&self) -> Option<u32>
+        ensures { result ≡ stored_id self.now.part self.now.id }
     {
         match self.part {
             Part::Typed(Section::Header) => None,

@@ -5,7 +5,7 @@ ghost use Rattle.giop_print.specs.Output.{Writes};
 ghost use Rattle.giop_decode.specs.ReadResult.{Read as MessageReader};
 ghost use Rattle.giop_decode.specs.Noted.{noted_of};
 ghost use Rattle.giop_decode.specs.DecoderState.{KeepsNoted};
-ghost use Rattle.giop_message.specs.MessageSteps.{request_call};
+ghost use Rattle.giop_message.specs.MessageSteps.{call_line_of_request};
 ghost use Rattle.giop_message.specs.Signatures.{Answer, signatures_of};
 ghost use Rattle.giop_message.specs.Phases.{Phase};
 
@@ -14,15 +14,15 @@ use crate::correspondent::Correspondent;
 use crate::header::kind_of;
 use crate::message::Message;
 use crate::part::Part;
-use crate::word::{fault_word, is_shown};
+use crate::word::{fault_word, is_graphic_name};
 use giop_cdr::pad;
 use giop_decode::{Decoder, Progress};
 use giop_print::{Out, OutFault, Root, call_line, fault_line, interface_call_line};
 use giop_sig::Catalogue;
 
 /// Writes the call line of a Request whose operation has just ended in its header.
-#[tactic(auto, unfolding(crate::specs::MessageSteps::request_call, crate::specs::MessageSteps::called_text, crate::specs::Signatures::signatures_of))]
-fn call<O: Out>(
+#[tactic(auto, unfolding(crate::specs::MessageSteps::call_line_of_request, crate::specs::MessageSteps::call_line_if_shown, crate::specs::Signatures::signatures_of))]
+fn write_call_line<O: Out>(
     catalogue: &Catalogue,
     decoder: &Decoder,
     number: u64,
@@ -32,7 +32,7 @@ fn call<O: Out>(
     requires { length header.now ≡ 12 }
     ensures { (answer : Answer) (phase : Phase) (r : MessageReader) →
         KeepsNoted catalogue.now Root.Header decoder.now r →
-        Writes result (O.log out.old) (O.log out.new) (request_call
+        Writes result (O.log out.old) (O.log out.new) (call_line_of_request
         (signatures_of catalogue.now answer phase) number header.now (noted_of true r)) }
 {
     if kind_of(header) != 0 {
@@ -44,7 +44,7 @@ fn call<O: Out>(
     let Some(operation) = decoder.name() else {
         return Ok(());
     };
-    if !is_shown(operation) {
+    if !is_graphic_name(operation) {
         return Ok(());
     }
     match decoder.interface(catalogue) {
@@ -63,7 +63,7 @@ fn call<O: Out>(
 
 impl Message {
     ghost use Rattle.giop_message.specs.Signatures.{Answers, signatures_of};
-    ghost use Rattle.giop_message.specs.MessageState.{AreKnown, IsKnown, Fits, Follows, due, due_text};
+    ghost use Rattle.giop_message.specs.MessageState.{AreKnown, IsKnown, Fits, Follows, more_lines, more_lines_text};
     ghost use Rattle.std.specs.Prelude.{take};
     ghost use Rattle.giop_message.specs.HeaderEnds.{AgreesAtEnds, header_ends, after_ends};
     ghost use Rattle.giop_message.specs.MessageSteps.{TookSome};
@@ -77,7 +77,8 @@ impl Message {
         ensures told { (answers : Answers) (phase : Phase)
             (number : ℕ) (header s : List ℕ) (octet : ℕ) →
             Follows catalogue.now answers phase number header self.old s →
-            due (signatures_of catalogue.now (answers number) phase) header s (octet ∷ []) ≡ [] }
+            more_lines (signatures_of catalogue.now (answers number) phase) header s (octet ∷ [])
+            ≡ [] }
         ensures follows { (answers : Answers) (phase : Phase)
             (number : ℕ) (header s : List ℕ) (octet : ℕ) →
             Follows catalogue.now answers phase number header self.old s →
@@ -114,7 +115,7 @@ impl Message {
         ensures writes { (answers : Answers) (phase : Phase) (number : ℕ) (header s : List ℕ) →
             Follows catalogue.now answers phase number header self.old s →
             TakesFront (λ went. went.0) (λ xs. header_ends phase number header s xs ≡ [])
-            (λ xs. Writes result (O.log out.old) (O.log out.new) (due_text
+            (λ xs. Writes result (O.log out.old) (O.log out.new) (more_lines_text
             (signatures_of catalogue.now (answers number) phase) number place header s xs))
             result octets.now }
         ensures took { IfOk result (λ went. (answers : Answers) (phase : Phase)
@@ -145,11 +146,11 @@ impl Message {
                 match progress {
                     Progress::More => Ok((taken, false)),
                     Progress::Named => {
-                        call(catalogue, decoder, self.number, &self.header, out)?;
+                        write_call_line(catalogue, decoder, self.number, &self.header, out)?;
                         Ok((taken, false))
                     }
                     Progress::Done => {
-                        self.leave(catalogue, correspondent);
+                        self.end_section(catalogue, correspondent);
                         Ok((taken, false))
                     }
                     Progress::Fault(kind) => {

@@ -2,7 +2,7 @@
 
 ghost use Rattle.std.specs.Prelude.{◌≡◌};
 ghost use Rattle.giop_message.specs.Text.{fault_word};
-ghost use Rattle.giop_message.specs.Messages.{is_shown};
+ghost use Rattle.giop_message.specs.Messages.{is_graphic_name};
 
 use giop_decode::ValueFault;
 
@@ -23,9 +23,9 @@ pub fn fault_word(kind: ValueFault) -> &'static str
 }
 
 /// Whether a call line can show an operation.
-#[tactic(auto, unfolding(crate::specs::Messages::is_shown))]
-pub fn is_shown(name: &[u8]) -> bool
-    ensures { result ≡ is_shown name.now }
+#[tactic(auto, unfolding(crate::specs::Messages::is_graphic_name))]
+pub fn is_graphic_name(name: &[u8]) -> bool
+    ensures { result ≡ is_graphic_name name.now }
 {
     !name.is_empty() && name.iter().all(|octet| *octet >= 33 && *octet <= 126)
 }

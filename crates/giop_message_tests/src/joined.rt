@@ -1,7 +1,7 @@
 //! Messages that are joined from a first piece and a Fragment of GIOP 1.1: padding after the first
 //! piece is counted by the Fragment.
 ghost use Rattle.std.specs.Prelude.{◌≤◌, length};
-ghost use Rattle.giop_message.specs.MessageState.{AreOf};
+ghost use Rattle.giop_message.specs.MessageState.{IsRequestTableOf};
 
 use crate::expecting::expect_same;
 use crate::stored::again;
@@ -80,7 +80,7 @@ fn joined_differs(
     back: &[u8],
     out: &mut Sheet,
 ) -> Result<&'static str, OutFault>
-    requires of { AreOf catalogue.now requests.now }
+    requires of { IsRequestTableOf catalogue.now requests.now }
     requires front { length front.now ≤ 1000 }
     requires back { length back.now ≤ 1000 }
 {
@@ -100,7 +100,7 @@ fn joined_differs(
     let Some(mut message) = again(catalogue, &message) else {
         return Ok("what is stored");
     };
-    if message.reach() > 2000 {
+    if message.octets_taken() > 2000 {
         return Ok("the offset");
     }
     let (count, is_over) = message.take(catalogue, &mut requests, back, 2000, out)?;
@@ -115,7 +115,7 @@ fn joined_differs(
 
 /// What differs in a row.
 fn row_differs(catalogue: &Catalogue, requests: &Requests, row: Joined) -> &'static str
-    requires of { AreOf catalogue.now requests.now }
+    requires of { IsRequestTableOf catalogue.now requests.now }
 {
     let (mut front, mut back, mut room) = ([0; 256], [0; 256], [0; 1024]);
     let front = &*spelled(row.front, &mut front);
@@ -138,7 +138,7 @@ fn row_differs(catalogue: &Catalogue, requests: &Requests, row: Joined) -> &'sta
 
 /// Each of these messages is joined.
 pub fn each_is_joined(rt: &impl Abort, catalogue: &Catalogue, requests: &Requests)
-    requires of { AreOf catalogue.now requests.now }
+    requires of { IsRequestTableOf catalogue.now requests.now }
 {
     for row in &ROWS {
         let differs = row_differs(catalogue, requests, *row);

@@ -1,7 +1,7 @@
 //! Messages that are stored and restored between two octets, and the octets that are stored of
 //! them.
 ghost use Rattle.std.specs.Prelude.{◌≡◌, ◌≤◌, length, IfSome};
-ghost use Rattle.giop_message.specs.MessageState.{AreOf, Fits};
+ghost use Rattle.giop_message.specs.MessageState.{IsRequestTableOf, Fits};
 
 use crate::expecting::{expect, expect_same, expect_same_in};
 use crate::rows::{Closing, Row, row_of, rows};
@@ -34,7 +34,7 @@ fn takes_restored(
     back: &[u8],
     out: &mut Sheet,
 ) -> Result<Option<Closing>, OutFault>
-    requires of { AreOf catalogue.now requests.now }
+    requires of { IsRequestTableOf catalogue.now requests.now }
     requires front { length front.now ≤ 1000 }
     requires back { length back.now ≤ 1000 }
 {
@@ -51,7 +51,7 @@ fn takes_restored(
     let Some(mut message) = again(catalogue, &message) else {
         return Ok(None);
     };
-    if message.reach() != place as u64 {
+    if message.octets_taken() != place as u64 {
         return Ok(None);
     }
     let (count, is_over) = message.take(catalogue, &mut requests, back, place as u64, out)?;
@@ -76,7 +76,7 @@ pub fn each_row_is_restored(
     requests: &Requests,
     rows: Split<'static, &'static str>,
 )
-    requires of { AreOf catalogue.now requests.now }
+    requires of { IsRequestTableOf catalogue.now requests.now }
 {
     for text in rows {
         let row = row_of(text);
@@ -97,7 +97,7 @@ fn restored_differs(
     octets: &[u8],
     cut: usize,
 ) -> &'static str
-    requires of { AreOf catalogue.now requests.now }
+    requires of { IsRequestTableOf catalogue.now requests.now }
 {
     if octets.len() > 1000 || cut < 12 || cut > octets.len() {
         return "the octets";
@@ -173,7 +173,7 @@ const CASES: [Case; 5] = [
 
 /// The octets that are stored of each case are those of the case.
 fn each_case_is_stored(rt: &impl Abort, catalogue: &Catalogue, requests: &Requests)
-    requires of { AreOf catalogue.now requests.now }
+    requires of { IsRequestTableOf catalogue.now requests.now }
 {
     for case in &CASES {
         let differs = case_differs(catalogue, requests, case);
@@ -183,7 +183,7 @@ fn each_case_is_stored(rt: &impl Abort, catalogue: &Catalogue, requests: &Reques
 
 /// What differs in what is stored of a case.
 fn case_differs(catalogue: &Catalogue, requests: &Requests, case: &Case) -> &'static str
-    requires of { AreOf catalogue.now requests.now }
+    requires of { IsRequestTableOf catalogue.now requests.now }
 {
     let (mut octets, mut own, mut part, mut frames) = ([0; 256], [0; 16], [0; 208], [0; 256]);
     let octets = spelled(case.octets, &mut octets);
@@ -202,7 +202,7 @@ fn stored_differs(
     part: &[u8],
     frames: &[u8],
 ) -> &'static str
-    requires of { AreOf catalogue.now requests.now }
+    requires of { IsRequestTableOf catalogue.now requests.now }
 {
     let mut requests = requests;
     let Some((header, behind)) = octets.split_first_chunk::<12>() else {
@@ -307,7 +307,7 @@ fn has_no_frame(catalogue: &Catalogue, case: usize) -> bool {
 
 /// Messages are stored and restored.
 pub fn each_is_stored(rt: &impl Abort, catalogue: &Catalogue, requests: &Requests)
-    requires of { AreOf catalogue.now requests.now }
+    requires of { IsRequestTableOf catalogue.now requests.now }
 {
     each_row_is_restored(rt, catalogue, requests, rows());
     each_case_is_stored(rt, catalogue, requests);

@@ -1,6 +1,6 @@
 //! The tests of messages of the built-in types: what is known of a header, the request id, and the
 //! rows of the other files.
-ghost use Rattle.giop_message.specs.MessageState.{AreOf};
+ghost use Rattle.giop_message.specs.MessageState.{IsRequestTableOf};
 
 use crate::due::each_row_stops;
 use crate::expecting::{expect, expect_same};
@@ -26,7 +26,7 @@ fn has_number_and_header(catalogue: &Catalogue) -> bool {
 
 /// What differs in the request id while its octets come. The text is empty if nothing differs.
 fn id_differs(catalogue: &Catalogue, requests: &Requests) -> &'static str
-    requires of { AreOf catalogue.now requests.now }
+    requires of { IsRequestTableOf catalogue.now requests.now }
 {
     let mut requests = requests;
     let mut room = [0; 256];
@@ -61,7 +61,7 @@ fn has(header: &[u8; 12], minor: u8, order: Order, kind: u8) -> bool {
 
 /// Checks all of this with the built-in types.
 fn each(rt: &impl Abort, catalogue: &Catalogue, requests: &Requests)
-    requires of { AreOf catalogue.now requests.now }
+    requires of { IsRequestTableOf catalogue.now requests.now }
 {
     // Bit 1 of the flags is set if more fragments follow.
     let little = b"GIOP\x01\x02\x03\x01\x14\x00\x00\x00";

@@ -4,18 +4,18 @@ use Rattle.std.specs.Prelude.{ℕ, ◌-◌, List, ◌∷◌, ◌++◌, length, r
 use Rattle.std.specs.Int.{w32, w64, to_be_bytes}
 
 -- a number below 2 ^ 32
-unfoldable pub four : ℕ → List ℕ
-four n = to_be_bytes w32 n
+unfoldable pub four : (number : ℕ) → List ℕ
+four number = to_be_bytes w32 number
 
 -- a number below 2 ^ 64
-unfoldable pub eight : ℕ → List ℕ
-eight n = to_be_bytes w64 n
+unfoldable pub eight : (number : ℕ) → List ℕ
+eight number = to_be_bytes w64 number
 
 -- a number that may be missing: 1 and the number, or zeros
-abbrev pub optional : Option ℕ → List ℕ
+abbrev pub optional : (number : Option ℕ) → List ℕ
 optional None = 0 ∷ four 0
-optional (Some n) = 1 ∷ four n
+optional (Some number) = 1 ∷ four number
 
 -- a few octets: first their number, then the octets, then zeros up to the room for them
-abbrev pub held : ℕ → List ℕ → List ℕ
+abbrev pub held : (room : ℕ) (octets : List ℕ) → List ℕ
 held room octets = length octets ∷ octets ++ replicate (room - length octets) 0

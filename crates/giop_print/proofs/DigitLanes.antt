@@ -18,11 +18,11 @@ looked_up (j ∷ js) i within below =
     cond-false _ _ _ (lt-leb 128 j (omega (arith, below.0))) ∙ ap hex_digit same in
     λ k. here k ∷ rest k
 
-abbrev low : ℕ → ℕ
+abbrev low : (x : ℕ) → ℕ
 low x = bit_and x 15
 
 -- the upper half and the lower half of each octet, one octet after another
-abbrev halves : List ℕ → List ℕ
+abbrev halves : (octets : List ℕ) → List ℕ
 halves [] = []
 halves (x ∷ xs) = x / 16 ∷ low x ∷ halves xs
 
@@ -42,7 +42,7 @@ halves_spelled (x ∷ xs) =
     λ i. hex_digit (x / 16) ∷ hex_digit (low_is x i) ∷ rest i
 
 -- the upper halves of 16 octets, and then the lower ones
-abbrev apart : List ℕ → List ℕ
+abbrev apart : (v : List ℕ) → List ℕ
 apart v = zip2 (λ a b. a / 2 ^ b) v (replicate 16 4) ++ zip2 bit_and v (replicate 16 15)
 
 apart_is : (v : List ℕ) → length v ≡ 16 → apart v ≡ map (λ x. x / 16) v ++ map low v

@@ -6,12 +6,12 @@ use Rattle.std.proofs.lemmas.List.{take-append-drop}
 use Rattle.std.proofs.lemmas.Bool.{true≢false}
 use Rattle.std.specs.Result.{is_ok, OnErr}
 use Rattle.giop_print.specs.Output.{OutLog, Wrote, WroteFront, Writes}
-use Rattle.giop_print.specs.Gathering.{WroteBut, Gathers}
+use Rattle.giop_print.specs.Gathering.{WroteAllBut, Gathers}
 use Rattle.giop_print.proofs.Writing.{wrote-append, wrote-front, front-append, flat_map-take}
 
 -- the gathered octets are written, and then the part
 pub but-none : (a b c : OutLog) (gathered part : List ℕ) → Wrote a b gathered → Wrote b c part →
-    WroteBut a c [] (gathered ++ part)
+    WroteAllBut a c [] (gathered ++ part)
 but-none a b c gathered part v w =
     record {
       front = gathered ++ part;
@@ -21,8 +21,8 @@ but-none a b c gathered part v w =
     }
 
 -- one more part is gathered
-pub but-more : (a b c : OutLog) (gathered left due part : List ℕ) → WroteBut a b gathered due →
-    WroteBut b c left (gathered ++ part) → WroteBut a c left (due ++ part)
+pub but-more : (a b c : OutLog) (gathered left due part : List ℕ) → WroteAllBut a b gathered due →
+    WroteAllBut b c left (gathered ++ part) → WroteAllBut a c left (due ++ part)
 but-more a b c gathered left due part v w =
     record {
       front = v.front ++ w.front;
@@ -32,7 +32,7 @@ but-more a b c gathered left due part v w =
     }
 
 -- a put failed at the next part
-pub but-front : (a b c : OutLog) (gathered due part : List ℕ) → WroteBut a b gathered due →
+pub but-front : (a b c : OutLog) (gathered due part : List ℕ) → WroteAllBut a b gathered due →
     WroteFront b c (gathered ++ part) → WroteFront a c (due ++ part)
 but-front a b c gathered due part v w =
     let e : v.front ++ (gathered ++ part) ≡ due ++ part =
@@ -41,16 +41,18 @@ but-front a b c gathered due part v w =
 
 -- one more part of a list is gathered
 pub but-parts : {X : Type 0} (f : X → List ℕ) (a b c : OutLog) (gathered left : List ℕ)
-    (xs : List X) (i : ℕ) (d : X) → i < length xs → WroteBut a b gathered (flat_map f (take i xs)) →
-    WroteBut b c left (gathered ++ f (get_or xs i d)) →
-    WroteBut a c left (flat_map f (take (i + 1) xs))
+    (xs : List X) (i : ℕ) (d : X) → i < length xs →
+    WroteAllBut a b gathered (flat_map f (take i xs)) →
+    WroteAllBut b c left (gathered ++ f (get_or xs i d)) →
+    WroteAllBut a c left (flat_map f (take (i + 1) xs))
 but-parts f a b c gathered left xs i d h p q =
     rw (flat_map-take f xs i d h) (but-more a b c gathered left (flat_map f (take i xs))
     (f (get_or xs i d)) p q)
 
 -- a put failed at a part of a list
 pub gathered-front : {X : Type 0} (f : X → List ℕ) (a b c : OutLog) (gathered : List ℕ)
-    (xs : List X) (i : ℕ) (d : X) → i < length xs → WroteBut a b gathered (flat_map f (take i xs)) →
+    (xs : List X) (i : ℕ) (d : X) → i < length xs →
+    WroteAllBut a b gathered (flat_map f (take i xs)) →
     WroteFront b c (gathered ++ f (get_or xs i d)) → WroteFront a c (flat_map f xs)
 gathered-front f a b c gathered xs i d h p q =
     let e : flat_map f xs ≡ (flat_map f (take i xs) ++ f (get_or xs i d))
@@ -67,7 +69,7 @@ gathered-front f a b c gathered xs i d h p q =
 
 -- all the parts are gathered, and then what is left is written
 pub writes_left : {A E : Type 0} (r : Result A E) (a b c : OutLog) (gathered due : List ℕ) →
-    WroteBut a b gathered due → Writes r b c gathered → Writes r a c due
+    WroteAllBut a b gathered due → Writes r b c gathered → Writes r a c due
 writes_left (Ok v) a b c gathered due p q =
     subst (Wrote a c) p.both (wrote-append a b c p.front gathered p.wrote q)
 writes_left (Err e) a b c gathered due p q =

@@ -119,11 +119,11 @@ low_digit k n =
     rw (pow-16 (2 * k), e) (omega arith)
 
 -- a number without its last 8 * k bits: the octets of a number are spelled from these
-abbrev shifted : ℕ → ℕ → ℕ
+abbrev shifted : (k n : ℕ) → ℕ
 shifted zero n = n
 shifted (suc k) n = shifted k n / 256
 
-abbrev pub number_octets : ℕ → ℕ → List ℕ
+abbrev pub number_octets : (k n : ℕ) → List ℕ
 number_octets zero n = []
 number_octets (suc k) n = shifted k n % 256 ∷ number_octets k n
 

@@ -6,7 +6,7 @@ use Rattle.std.proofs.lemmas.List.Concat.{flat_map-append}
 use Rattle.std.proofs.lemmas.List.{take-append-le, take_all, take-append-drop}
 use Rattle.std.proofs.lemmas.Bool.{cases_lt, false≢true}
 use Rattle.std.specs.Io.KnownBytes.{Appends, Keeps}
-use Rattle.giop_print.specs.Output.{OutLog, counted, Took, Failed, Wrote, WroteFront, Writes}
+use Rattle.giop_print.specs.Output.{OutLog, saturating_next, Took, Failed, Wrote, WroteFront, Writes}
 
 appends-nil : (a : Option (List ℕ)) → Appends a a []
 appends-nil None = tt
@@ -43,7 +43,7 @@ wrote-front a b c x y p q =
       written = rw take-append-add (appends-append a.written b.written c.written x (take q.size y)
           p.written q.written);
       puts = let l = length-append x y in omega (arith, p.puts, q.puts);
-      failures = q.failures ∙ ap counted p.failures;
+      failures = q.failures ∙ ap saturating_next p.failures;
     }
 
 take_front : (s : ℕ) (x y : List ℕ) → take (min s (length x)) (x ++ y) ≡ take s x
@@ -67,7 +67,7 @@ front-append a b x y p =
 -- one put of a run of puts
 pub wrote-took : (a b c : OutLog) (bytes : List ℕ) (at n : ℕ) → at < length bytes →
     Wrote a b (take at bytes) → Took b c (drop at bytes) n → Wrote a c (take (at + n) bytes)
-unfolding counted
+unfolding saturating_next
 wrote-took a b c bytes at n h p q =
     let l = length-drop at bytes in
     let k : at + n ≤ length bytes = omega (arith, q.within) in
@@ -103,7 +103,7 @@ rest-took a b c bytes rest n some left took =
 
 pub front-failed : (a b c : OutLog) (bytes : List ℕ) (at : ℕ) → at < length bytes →
     Wrote a b (take at bytes) → Failed b c → WroteFront a c bytes
-unfolding counted
+unfolding saturating_next
 front-failed a b c bytes at h p q =
     let l1 = length-take at bytes in
     record {
@@ -111,7 +111,7 @@ front-failed a b c bytes at h p q =
       written = rw append-nil at (appends-append a.written b.written c.written (take at bytes) []
           p.written (appends-keeps b.written c.written q.written));
       puts = omega (arith, p.puts, q.puts);
-      failures = q.failures ∙ ap counted p.failures;
+      failures = q.failures ∙ ap saturating_next p.failures;
     }
 
 -- the value of `&bytes[at..]`

@@ -3,15 +3,15 @@ use Rattle.std.specs.Prelude.{◌≡◌, ℕ, List, ◌++◌, Result, MatchResul
 use Rattle.giop_print.specs.Output.{OutLog, Wrote, WroteFront}
 
 -- all that was due was written, except what is left to be written
-pub record WroteBut (before after : OutLog) (left due : List ℕ) : Type 0 where
+pub record WroteAllBut (before after : OutLog) (left due : List ℕ) : Type 0 where
   pub front : List ℕ
   pub wrote : Wrote before after front
   pub both : front ++ left ≡ due
 
 -- what gathering a part did: all was written except what is gathered now; or a front of it was
 -- written, and then a put failed
-abbrev pub Gathers : {A E : Type 0} → Result A E → OutLog → OutLog → List ℕ → List ℕ → List ℕ →
-    Type 0
+abbrev pub Gathers : {A E : Type 0} (r : Result A E) (before after : OutLog)
+    (gathered left part : List ℕ) → Type 0
 Gathers r before after gathered left part =
-    MatchResult r (λ _. WroteBut before after left (gathered ++ part))
+    MatchResult r (λ _. WroteAllBut before after left (gathered ++ part))
     (λ _. WroteFront before after (gathered ++ part))

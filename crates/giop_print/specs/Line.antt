@@ -3,20 +3,20 @@ use Rattle.std.specs.Prelude.{◌≡◌, ℕ, ◌+◌, Bool, IsTrue, List, ◌++
 use Rattle.giop_print.specs.declared.line.Line.{Line}
 
 -- the text that was spelled
-abbrev pub line_text : Line → List ℕ
+abbrev pub line_text : (line : Line) → List ℕ
 line_text l = drop l.at l.octets
 
 -- how many more octets fit
-abbrev pub line_room : Line → ℕ
+abbrev pub line_room : (line : Line) → ℕ
 line_room l = l.at
 
 -- a line of a message: `m`, the message's number, and the rest of the line
-abbrev pub numbered : ℕ → List ℕ → List ℕ
+abbrev pub numbered : (message : ℕ) (rest : List ℕ) → List ℕ
 numbered message rest = codes "m" ++ (decimal message ++ rest)
 
 -- a line of a message at a place: `m`, the message's number, a space, the place, and the rest of
 -- the line
-abbrev pub headed : ℕ → List ℕ → List ℕ → List ℕ
+abbrev pub headed : (message : ℕ) (place rest : List ℕ) → List ℕ
 headed message place rest = numbered message (codes " " ++ (place ++ rest))
 
 -- what spelling a text before a line did: all of the text was put there, or an end of it if the

@@ -14,33 +14,33 @@ use Rattle.giop_print.specs.declared.value.Piece.{Piece}
 use Rattle.giop_print.specs.declared.value.Piece.TheVariants as pieces
 use Rattle.giop_print.specs.Text.{hex, hex_number, quoted, joined}
 
-abbrev pub order_word : Order → List ℕ
+abbrev pub order_word : (order : Order) → List ℕ
 order_word Big = codes "big"
 order_word Little = codes "little"
 
 -- the word of a message type, or its number if the type is above 7
-unfoldable pub type_word : ℕ → List ℕ
-type_word t =
-    if t == 0 then codes "Request"
-    else (if t == 1 then codes "Reply"
-    else (if t == 2 then codes "CancelRequest"
-    else (if t == 3 then codes "LocateRequest"
-    else (if t == 4 then codes "LocateReply"
-    else (if t == 5 then codes "CloseConnection"
-    else (if t == 6 then codes "MessageError"
-    else (if t == 7 then codes "Fragment"
-    else decimal t)))))))
+unfoldable pub type_word : (message_type : ℕ) → List ℕ
+type_word message_type =
+    if message_type == 0 then codes "Request"
+    else (if message_type == 1 then codes "Reply"
+    else (if message_type == 2 then codes "CancelRequest"
+    else (if message_type == 3 then codes "LocateRequest"
+    else (if message_type == 4 then codes "LocateReply"
+    else (if message_type == 5 then codes "CloseConnection"
+    else (if message_type == 6 then codes "MessageError"
+    else (if message_type == 7 then codes "Fragment"
+    else decimal message_type)))))))
 
-abbrev pub more_word : Bool → List ℕ
+abbrev pub more_word : (more : Bool) → List ℕ
 more_word true = codes " more"
 more_word false = []
 
-abbrev pub truth_word : Bool → List ℕ
+abbrev pub truth_word : (value : Bool) → List ℕ
 truth_word true = codes "true"
 truth_word false = codes "false"
 
 -- the word of a primitive's kind
-abbrev pub kind_word : Primitive → List ℕ
+abbrev pub kind_word : (prim : Primitive) → List ℕ
 kind_word prims.Octet = codes "octet"
 kind_word prims.Char = codes "char"
 kind_word prims.Boolean = codes "boolean"
@@ -54,7 +54,7 @@ kind_word prims.Float = codes "float"
 kind_word prims.Double = codes "double"
 
 -- the text of a number of a primitive of this size; bits have two digits for each octet
-abbrev pub number_text : ℕ → Number → List ℕ
+abbrev pub number_text : (size : ℕ) (number : Number) → List ℕ
 number_text size (Unsigned n) = decimal n
 number_text size (Signed z) = signed_decimal z
 number_text size (Bits n) = hex_number (2 * size) n
@@ -62,21 +62,21 @@ number_text size (Truth truth) = truth_word truth
 number_text size (Char c) = quoted (c ∷ [])
 
 -- a word between spaces
-abbrev pub spaced : List ℕ → List ℕ
+abbrev pub spaced : (word : List ℕ) → List ℕ
 spaced word = codes " " ++ word ++ codes " "
 
 -- the line of a value of a kind; the word of the kind already has its spaces
-unfoldable pub kind_line : ℕ → List ℕ → List ℕ → List ℕ → List ℕ
+unfoldable pub kind_line : (message : ℕ) (path kind text : List ℕ) → List ℕ
 kind_line message path kind text =
     joined (codes "m" ∷ decimal message ∷ codes " " ∷ path ∷ kind ∷ text ∷ codes "\n" ∷ [])
 
 -- the text of a number with its name: a word, and the code after it if there is one
-abbrev pub named_text : ℕ → List ℕ → Option ℕ → List ℕ
+abbrev pub named_text : (number : ℕ) (word : List ℕ) (code : Option ℕ) → List ℕ
 named_text number word None = decimal number ++ (codes " " ++ word)
 named_text number word (Some code) =
     decimal number ++ (codes " " ++ (word ++ (codes " " ++ decimal code)))
 
-abbrev pub value_line : ℕ → List ℕ → Value → List ℕ
+abbrev pub value_line : (message : ℕ) (path : List ℕ) (value : Value) → List ℕ
 value_line message path (values.Primitive prim number) =
     kind_line message path (spaced (kind_word prim)) (number_text (size_of prim) number)
 value_line message path (values.Enum name) = kind_line message path (codes " enum ") name.now
@@ -86,105 +86,110 @@ value_line message path (values.Named number word code) =
     kind_line message path (codes " ulong ") (named_text number word.now code)
 
 -- the octets of a piece
-abbrev pub piece_octets : Piece → List ℕ
+abbrev pub piece_octets : (piece : Piece) → List ℕ
 piece_octets (pieces.Text octets) = octets.now
 piece_octets (pieces.Octets octets) = octets.now
 piece_octets (pieces.WideText octets) = octets.now
 piece_octets (pieces.WideChar octets) = octets.now
 
-abbrev pub piece_word : Piece → List ℕ
+abbrev pub piece_word : (piece : Piece) → List ℕ
 piece_word (pieces.Text octets) = codes " string @"
 piece_word (pieces.Octets octets) = codes " octets @"
 piece_word (pieces.WideText octets) = codes " wstring @"
 piece_word (pieces.WideChar octets) = codes " wchar @"
 
 -- a space and the digits of some octets
-abbrev pub spaced_hex : List ℕ → List ℕ
+abbrev pub spaced_hex : (octets : List ℕ) → List ℕ
 spaced_hex [] = []
 spaced_hex (x ∷ xs) = codes " " ++ hex (x ∷ xs)
 
-abbrev pub piece_text : Piece → List ℕ
+abbrev pub piece_text : (piece : Piece) → List ℕ
 piece_text (pieces.Text octets) = codes " " ++ quoted octets.now
 piece_text piece = spaced_hex (piece_octets piece)
 
 -- the text of a piece whose octets are followed by more octets
-abbrev pub split_text : Piece → List ℕ → List ℕ
-split_text (pieces.Text octets) next = codes " " ++ quoted (octets.now ++ next)
-split_text piece next = spaced_hex (piece_octets piece ++ next)
+abbrev pub split_piece_text : (piece : Piece) (next : List ℕ) → List ℕ
+split_piece_text (pieces.Text octets) next = codes " " ++ quoted (octets.now ++ next)
+split_piece_text piece next = spaced_hex (piece_octets piece ++ next)
 
 -- the line of a part of a content: its offset in the content, its text, and whether more comes
-unfoldable pub content_line : ℕ → List ℕ → List ℕ → ℕ → List ℕ → List ℕ → List ℕ
+unfoldable pub content_line : (message : ℕ) (path word : List ℕ) (offset : ℕ) (text more : List ℕ) →
+    List ℕ
 content_line message path word offset text more =
     joined (codes "m" ∷ decimal message ∷ codes " " ∷ path ∷ word ∷ decimal offset ∷ text ∷ more
     ∷ codes "\n" ∷ [])
 
-abbrev pub piece_line : ℕ → List ℕ → Piece → ℕ → Bool → List ℕ
+abbrev pub piece_line : (message : ℕ) (path : List ℕ) (piece : Piece) (offset : ℕ) (more : Bool) →
+    List ℕ
 piece_line message path piece offset more =
     content_line message path (piece_word piece) offset (piece_text piece) (more_word more)
 
-abbrev pub split_piece_line : ℕ → List ℕ → Piece → List ℕ → ℕ → Bool → List ℕ
+abbrev pub split_piece_line : (message : ℕ) (path : List ℕ) (held : Piece) (octets : List ℕ)
+    (offset : ℕ) (more : Bool) → List ℕ
 split_piece_line message path held octets offset more =
-    content_line message path (piece_word held) offset (split_text held octets) (more_word more)
+    content_line message path (piece_word held) offset (split_piece_text held octets)
+    (more_word more)
 
 -- the lines of an encapsulation: how many octets it has, their order, and the octets that are left
 -- after its value
-abbrev pub encapsulation_line : ℕ → List ℕ → ℕ → List ℕ
+abbrev pub encapsulation_line : (message : ℕ) (path : List ℕ) (length : ℕ) → List ℕ
 encapsulation_line message path length =
     kind_line message path (codes " encapsulation ") (decimal length)
 
-abbrev pub order_line : ℕ → List ℕ → Order → List ℕ
+abbrev pub order_line : (message : ℕ) (path : List ℕ) (order : Order) → List ℕ
 order_line message path order = kind_line message path (codes " order ") (order_word order)
 
-abbrev pub inner_rest_line : ℕ → List ℕ → ℕ → List ℕ → List ℕ
+abbrev pub inner_rest_line : (message : ℕ) (path : List ℕ) (offset : ℕ) (octets : List ℕ) → List ℕ
 inner_rest_line message path offset octets =
     content_line message path (codes " rest @") offset (spaced_hex octets) []
 
-unfoldable pub rest_line : ℕ → ℕ → List ℕ → List ℕ
+unfoldable pub rest_line : (message offset : ℕ) (octets : List ℕ) → List ℕ
 rest_line message offset octets =
     joined (codes "m" ∷ decimal message ∷ codes " rest @" ∷ decimal offset ∷ codes " " ∷ hex octets
     ∷ codes "\n" ∷ [])
 
-unfoldable pub start_line : ℕ → ℕ → Order → ℕ → ℕ → Bool → List ℕ
+unfoldable pub start_line : (message minor : ℕ) (order : Order) (kind size : ℕ) (more : Bool) →
+    List ℕ
 start_line message minor order kind size more =
     joined (codes "m" ∷ decimal message ∷ codes " start 1." ∷ decimal minor ∷ codes " "
     ∷ order_word order ∷ codes " " ∷ type_word kind ∷ codes " size " ∷ decimal size ∷ more_word more
     ∷ codes "\n" ∷ [])
 
-unfoldable pub call_line : ℕ → ℕ → List ℕ → List ℕ
+unfoldable pub call_line : (message id : ℕ) (name : List ℕ) → List ℕ
 call_line message id name =
     joined (codes "m" ∷ decimal message ∷ codes " call " ∷ decimal id ∷ codes " " ∷ name ∷ codes
     "\n" ∷ [])
 
 -- the line of a Request whose object key has an interface
-unfoldable pub interface_call_line : ℕ → ℕ → List ℕ → List ℕ → List ℕ
+unfoldable pub interface_call_line : (message id : ℕ) (name interface : List ℕ) → List ℕ
 interface_call_line message id name interface =
     joined (codes "m" ∷ decimal message ∷ codes " call " ∷ decimal id ∷ codes " " ∷ name
     ∷ codes " " ∷ interface ∷ codes "\n" ∷ [])
 
-unfoldable pub continues_line : ℕ → ℕ → List ℕ
+unfoldable pub continues_line : (fragment opener : ℕ) → List ℕ
 continues_line fragment opener =
     joined (codes "m" ∷ decimal fragment ∷ codes " continues m" ∷ decimal opener ∷ codes "\n" ∷ [])
 
-unfoldable pub cancelled_line : ℕ → ℕ → List ℕ
-cancelled_line message by =
-    joined (codes "m" ∷ decimal message ∷ codes " cancelled by m" ∷ decimal by ∷ codes "\n" ∷ [])
+unfoldable pub cancelled_line : (message canceller : ℕ) → List ℕ
+cancelled_line message canceller =
+    joined (codes "m" ∷ decimal message ∷ codes " cancelled by m" ∷ decimal canceller ∷ codes "\n" ∷ [])
 
-unfoldable pub fault_line : ℕ → List ℕ → ℕ → List ℕ
+unfoldable pub fault_line : (message : ℕ) (word : List ℕ) (place : ℕ) → List ℕ
 fault_line message word place =
     joined (codes "m" ∷ decimal message ∷ codes " fault " ∷ word ∷ codes " at " ∷ decimal place
     ∷ codes "\n" ∷ [])
 
-unfoldable pub end_line : ℕ → List ℕ
+unfoldable pub end_line : (message : ℕ) → List ℕ
 end_line message = joined (codes "m" ∷ decimal message ∷ codes " end\n" ∷ [])
 
-unfoldable pub stream_fault_line : List ℕ → ℕ → List ℕ
+unfoldable pub stream_fault_line : (word : List ℕ) (place : ℕ) → List ℕ
 stream_fault_line word place =
     joined (codes "stream fault " ∷ word ∷ codes " at " ∷ decimal place ∷ codes "\n" ∷ [])
 
-unfoldable pub unfinished_line : ℕ → List ℕ
+unfoldable pub unfinished_line : (message : ℕ) → List ℕ
 unfinished_line message = joined (codes "m" ∷ decimal message ∷ codes " unfinished\n" ∷ [])
 
-unfoldable pub total_line : ℕ → ℕ → ℕ → List ℕ
+unfoldable pub total_line : (messages faults octets : ℕ) → List ℕ
 total_line messages faults octets =
     joined (codes "total messages " ∷ decimal messages ∷ codes " faults " ∷ decimal faults
     ∷ codes " octets " ∷ decimal octets ∷ codes "\n" ∷ [])

@@ -9,22 +9,22 @@ pub record OutLog : Type 0 where
   pub failures : ℕ
 
 -- one more, except that a count of 2^64 - 1 stays
-unfoldable pub counted : ℕ → ℕ
-counted n = min (n + 1) (2 ^ 64 - 1)
+unfoldable pub saturating_next : (count : ℕ) → ℕ
+saturating_next count = min (count + 1) (2 ^ 64 - 1)
 
 -- a put took the first n octets of those that it was given: at least one, unless there were none
 pub record Took (before after : OutLog) (octets : List ℕ) (n : ℕ) : Type 0 where
   pub some : 0 < length octets → 0 < n
   pub within : n ≤ length octets
   pub written : Appends before.written after.written (take n octets)
-  pub puts : after.puts ≡ counted before.puts
+  pub puts : after.puts ≡ saturating_next before.puts
   pub failures : after.failures ≡ before.failures
 
 -- a put failed and wrote nothing
 pub record Failed (before after : OutLog) : Type 0 where
   pub written : Keeps before.written after.written
-  pub puts : after.puts ≡ counted before.puts
-  pub failures : after.failures ≡ counted before.failures
+  pub puts : after.puts ≡ saturating_next before.puts
+  pub failures : after.failures ≡ saturating_next before.failures
 
 -- all that was due was written, by at most as many puts as octets, and no put failed
 pub record Wrote (before after : OutLog) (due : List ℕ) : Type 0 where
@@ -37,9 +37,9 @@ pub record WroteFront (before after : OutLog) (due : List ℕ) : Type 0 where
   pub size : ℕ
   pub written : Appends before.written after.written (take size due)
   pub puts : after.puts ≤ before.puts + length due
-  pub failures : after.failures ≡ counted before.failures
+  pub failures : after.failures ≡ saturating_next before.failures
 
 -- what writing did: all that was due was written; or a front of it, and then a put failed
-abbrev pub Writes : {A E : Type 0} → Result A E → OutLog → OutLog → List ℕ → Type 0
+abbrev pub Writes : {A E : Type 0} (r : Result A E) (before after : OutLog) (due : List ℕ) → Type 0
 Writes r before after due = MatchResult r (λ _. Wrote before after due)
     (λ _. WroteFront before after due)

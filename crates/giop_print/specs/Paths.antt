@@ -15,18 +15,18 @@ pub record HeadView : Type 0 where
   pub root : Root
 
 -- the text of a path
-abbrev pub path_text_of : PathText → List ℕ
+abbrev pub path_text_of : (path : PathText) → List ℕ
 path_text_of path = path.text
 
-abbrev pub root_word : Root → List ℕ
+abbrev pub root_word : (root : Root) → List ℕ
 root_word Header = codes "header"
 root_word Exception = codes "exception"
 root_word Body = codes "body"
 
 -- the step to a member
-abbrev pub name_segment : List ℕ → List ℕ
+abbrev pub name_segment : (name : List ℕ) → List ℕ
 name_segment name = codes "." ++ name
 
 -- the step to an element
-abbrev pub index_segment : ℕ → List ℕ
+abbrev pub index_segment : (index : ℕ) → List ℕ
 index_segment index = codes "[" ++ decimal index ++ codes "]"

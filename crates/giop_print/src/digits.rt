@@ -8,7 +8,7 @@ use std::simd::prelude::*;
 
 /// The digit of each of these numbers below 16, in one step if the processor looks up lanes.
 #[inline(always)]
-fn digits(numbers: u8x16) -> u8x16
+fn hex_digits(numbers: u8x16) -> u8x16
     requires { Each1 (λ number. number < 16) numbers }
     ensures { result ≡ map hex_digit numbers }
 {
@@ -25,7 +25,7 @@ pub(crate) fn digit_pairs(octets: u8x16) -> (u8x16, u8x16)
     let high = octets >> u8x16::splat(4);
     let low = octets & u8x16::splat(15);
     let (first, others) = high.interleave(low);
-    (digits(first), digits(others))
+    (hex_digits(first), hex_digits(others))
 }
 
 /// The 16 digits of a number.

@@ -7,7 +7,7 @@ ghost use Rattle.giop_print.specs.Output.{Writes};
 ghost use Rattle.giop_print.specs.Lines.{encapsulation_line, order_line, inner_rest_line};
 
 use crate::line::Line;
-use crate::lines::{counted_line, kind_line, put_content, spelled_line};
+use crate::lines::{counted_line, kind_line, line_with_spelled_rest, put_content};
 use crate::position::Position;
 use crate::sink::{Out, OutFault};
 use crate::value::{Piece, SplitPiece};
@@ -72,5 +72,5 @@ pub fn split_inner_rest_line<O: Out, P: Position>(
     let mut line = Line::new();
     put_content(&mut line, rest);
     line.put_octets(b" rest @");
-    spelled_line(out, path, &mut line)
+    line_with_spelled_rest(out, path, &mut line)
 }

@@ -38,7 +38,7 @@ impl Model for Head {
 
 /// The octets of a head without the number of its message, and the index at which that number ends.
 #[inline(always)]
-fn behind_number(root: Root) -> ([u8; SIZE], usize)
+fn head_after_number(root: Root) -> ([u8; SIZE], usize)
     ensures text { drop result.1 result.0 ≡ codes " " ++ root_word root }
     ensures room { 21 ≤ result.1 }
     ensures within { result.1 ≤ 31 }
@@ -55,7 +55,7 @@ impl Head {
     pub fn new(message: u64, root: Root) -> Head
         ensures { result ≡ record { message = message; root = root } }
     {
-        let (mut octets, end) = behind_number(root);
+        let (mut octets, end) = head_after_number(root);
         let at = write_digits(message, &mut octets, end);
         octets[at - 1] = b'm';
         Head {

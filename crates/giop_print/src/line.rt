@@ -4,7 +4,7 @@
 ghost use Rattle.std.specs.Prelude.{◌≡◌, ◌≤◌, ◌<◌, ◌+◌, ◌-◌, ◌*◌, [], ◌∷◌, ◌++◌, length, take, drop, decimal};
 ghost use Rattle.std.specs.Fmt.{signed_decimal};
 ghost use Rattle.giop_print.specs.Text.{hex_octet, hex, hex_number, escaped_octet, escaped, quoted};
-ghost use Rattle.giop_print.specs.Lines.{piece_octets, spaced_hex, split_text};
+ghost use Rattle.giop_print.specs.Lines.{piece_octets, spaced_hex, split_piece_text};
 
 use crate::digits::{digit_pairs, number_digits};
 use crate::value::Piece;
@@ -86,7 +86,7 @@ impl Line {
 
     /// Drops what was spelled last, until this many octets fit.
     #[inline]
-    pub(crate) fn cut(&mut self, room: usize)
+    pub(crate) fn drop_front_to_room(&mut self, room: usize)
         requires within { line_room self.old ≤ room }
         requires most { room ≤ 256 }
         ensures text { line_text self.new ≡ drop (room - line_room self.old) (line_text self.old) }
@@ -323,7 +323,8 @@ impl Line {
     pub(crate) fn put_piece(&mut self, piece: Piece<'_>, next: &[u8])
         requires size { length (piece_octets piece) + length next.now ≤ 32 }
         requires room { 131 ≤ line_room self.old }
-        ensures text { line_text self.new ≡ split_text piece.entry next.now ++ line_text self.old }
+        ensures text { line_text self.new ≡ split_piece_text piece.entry next.now
+            ++ line_text self.old }
         ensures room { line_room self.old ≤ line_room self.new + 131 }
     {
         match piece {

@@ -6,7 +6,7 @@ ghost use Rattle.std.specs.Prelude.{◌≡◌, ◌+◌, ◌≤◌, [], ◌++◌,
 ghost use Rattle.giop_cdr.specs.Primitives.{size_of};
 ghost use Rattle.giop_print.specs.Output.{Writes};
 ghost use Rattle.giop_print.specs.Line.{line_text, line_room, numbered, headed, Spells};
-ghost use Rattle.giop_print.specs.Lines.{kind_line, kind_word, spaced, named_text, number_text, piece_octets, piece_word, split_text, more_word, value_line, piece_line, split_piece_line, rest_line, start_line, call_line, interface_call_line, continues_line, cancelled_line, fault_line, end_line, stream_fault_line, unfinished_line, total_line};
+ghost use Rattle.giop_print.specs.Lines.{kind_line, kind_word, spaced, named_text, number_text, piece_octets, piece_word, split_piece_text, more_word, value_line, piece_line, split_piece_line, rest_line, start_line, call_line, interface_call_line, continues_line, cancelled_line, fault_line, end_line, stream_fault_line, unfinished_line, total_line};
 
 use crate::line::Line;
 use crate::position::Position;
@@ -50,7 +50,7 @@ pub(crate) fn counted_line<O: Out, P: Position>(
     line.put(b'\n');
     line.put_number(u64::from(count));
     line.put_octets(kind);
-    spelled_line(out, path, &mut line)
+    line_with_spelled_rest(out, path, &mut line)
 }
 
 /// The line of a primitive's number.
@@ -67,7 +67,7 @@ fn number_line<O: Out, P: Position>(
 {
     let mut line = Line::new();
     put_number_end(&mut line, prim, number);
-    spelled_line(out, path, &mut line)
+    line_with_spelled_rest(out, path, &mut line)
 }
 
 /// Puts what the line of a primitive's number has after its path on an empty line: the kind, the
@@ -123,7 +123,7 @@ pub fn kind_line<'a, O: Out, P: Position>(
     let mut line = Line::new();
     line.put(b'\n');
     line.put_octets(text);
-    placed_line(out, path, kind, &mut line)
+    line_at_position(out, path, kind, &mut line)
 }
 
 /// The line of an unsigned long that has a name: the number, a word, and the code after it if there
@@ -154,7 +154,7 @@ fn named_line<O: Out, P: Position>(
     line.put(b' ');
     line.put_number(u64::from(number));
     line.put_octets(b" ulong ");
-    spelled_line(out, path, &mut line)
+    line_with_spelled_rest(out, path, &mut line)
 }
 
 /// The same line with a word of any length, written in parts, with what follows the word.
@@ -245,7 +245,7 @@ fn long_line<'a, O: Out, P: Position>(
 
 /// A line of a message at a position: what it begins with, a kind, and the rest, which is already
 /// spelled.
-fn placed_line<O: Out, P: Position>(
+fn line_at_position<O: Out, P: Position>(
     out: &mut O,
     path: &P,
     kind: &[u8],
@@ -258,12 +258,12 @@ fn placed_line<O: Out, P: Position>(
         return long_line(out, path, kind, line.text());
     }
     line.put_octets(kind);
-    spelled_line(out, path, line)
+    line_with_spelled_rest(out, path, line)
 }
 
 /// A line of a message at a position: what it begins with, and the rest, which is already spelled
 /// with its kind.
-pub(crate) fn spelled_line<O: Out, P: Position>(
+pub(crate) fn line_with_spelled_rest<O: Out, P: Position>(
     out: &mut O,
     path: &P,
     line: &mut Line,
@@ -275,7 +275,7 @@ pub(crate) fn spelled_line<O: Out, P: Position>(
     if path.spell(line) {
         return out.put_line(line);
     }
-    line.cut(room);
+    line.drop_front_to_room(room);
     long_line(out, path, &[], line.text())
 }
 
@@ -327,7 +327,7 @@ pub fn split_piece_line<O: Out, P: Position>(
 {
     let mut line = Line::new();
     put_piece_end(&mut line, piece);
-    spelled_line(out, path, &mut line)
+    line_with_spelled_rest(out, path, &mut line)
 }
 
 /// Puts what the line of a piece has after its path on an empty line: its word, its offset, its octets, whether more
@@ -338,7 +338,7 @@ pub fn put_piece_end(line: &mut Line, piece: SplitPiece<'_>)
     requires empty { line_text line.old ≡ [] }
     requires room { line_room line.old ≡ 256 }
     ensures text { line_text line.new ≡ piece_word piece.entry.held
-        ++ (decimal piece.entry.offset ++ (split_text piece.entry.held piece.entry.rest.now
+        ++ (decimal piece.entry.offset ++ (split_piece_text piece.entry.held piece.entry.rest.now
         ++ (more_word piece.entry.more ++ codes "\n"))) }
     ensures room { 89 ≤ line_room line.new }
 {
@@ -354,7 +354,7 @@ pub(crate) fn put_content(line: &mut Line, piece: SplitPiece<'_>)
     requires empty { line_text line.old ≡ [] }
     requires room { line_room line.old ≡ 256 }
     ensures text { line_text line.new ≡ decimal piece.entry.offset
-        ++ (split_text piece.entry.held piece.entry.rest.now
+        ++ (split_piece_text piece.entry.held piece.entry.rest.now
         ++ (more_word piece.entry.more ++ codes "\n")) }
     ensures room { 99 ≤ line_room line.new }
 {

@@ -2,7 +2,7 @@
 //! octets to it.
 
 ghost use Rattle.std.specs.Prelude.{◌≡◌, MatchResult, flat_map};
-ghost use Rattle.giop_print.specs.Output.{OutLog, counted, Took, Failed, Writes};
+ghost use Rattle.giop_print.specs.Output.{OutLog, saturating_next, Took, Failed, Writes};
 ghost use Rattle.giop_print.specs.Gathering.{Gathers};
 ghost use Rattle.giop_print.specs.Line.{line_text};
 
@@ -67,7 +67,7 @@ pub fn put_parts<O: Out>(out: &mut O, parts: &[&[u8]]) -> Result<(), OutFault>
 {
     let mut gathered = ArrayVec::<u8, GATHERED>::new();
     for part in parts {
-        gather(out, &mut gathered, part)?;
+        gather_part(out, &mut gathered, part)?;
     }
     put_all(out, gathered.as_slice())
 }
@@ -75,7 +75,7 @@ pub fn put_parts<O: Out>(out: &mut O, parts: &[&[u8]]) -> Result<(), OutFault>
 /// Appends a part to what is gathered. If there is no room for it, all that is gathered is written
 /// first; and if the part is longer than the whole room, it is written too.
 #[inline]
-fn gather<O: Out>(
+fn gather_part<O: Out>(
     out: &mut O,
     gathered: &mut ArrayVec<u8, GATHERED>,
     part: &[u8],
@@ -101,9 +101,9 @@ fn gather<O: Out>(
 }
 
 /// One more, except that a count of 2^64 - 1 stays.
-#[tactic(auto, unfolding(crate::specs::Output::counted))]
+#[tactic(auto, unfolding(crate::specs::Output::saturating_next))]
 pub fn one_more(count: u64) -> u64
-    ensures { result ≡ counted count }
+    ensures { result ≡ saturating_next count }
 {
     count.saturating_add(1)
 }

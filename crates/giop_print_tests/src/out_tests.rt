@@ -1,6 +1,6 @@
 //! Outs that fail or are full, and writers.
 ghost use Rattle.std.specs.Prelude.{◌≡◌};
-ghost use Rattle.giop_print.specs.Output.{counted};
+ghost use Rattle.giop_print.specs.Output.{saturating_next};
 
 use crate::streams::{REQUEST, header, request};
 use giop_cdr::Order;
@@ -8,9 +8,9 @@ use giop_print::{Out, OutFault, Sheet, Written, end_line, put_all, start_line};
 use std::test::Fail;
 
 /// One more, except that a count of 2^64 - 1 stays.
-#[tactic(auto, unfolding(giop_print::specs::Output::counted))]
+#[tactic(auto, unfolding(giop_print::specs::Output::saturating_next))]
 fn one_more(count: u64) -> u64
-    ensures { result ≡ counted count }
+    ensures { result ≡ saturating_next count }
 {
     count.saturating_add(1)
 }

@@ -6,7 +6,7 @@ ghost use Rattle.giop_stream.specs.Rules.{most_open};
 
 use clap::builder::ValueParser;
 use clap::{Arg, Command, Error};
-use giop_run::marked;
+use giop_run::words_with_stand_ins;
 use giop_stream::MOST_OPEN;
 use std::alloc::{AllocError, Global};
 
@@ -62,7 +62,7 @@ pub struct Arguments<'a> {
     /// The signature file. If there is none, only the built-in types are known.
     pub signatures: Option<&'a str>,
     /// Whether that file may be of version 3.
-    pub third: bool,
+    pub version_3: bool,
     /// The request list. If there is none, the list is empty.
     pub requests: Option<&'a str>,
     /// The checkpoint from which the stream is read on. If there is none, the stream is new.
@@ -114,23 +114,23 @@ impl<'a> Arguments<'a> {
     /// also the answer to `--help` and `--version`, with status 0.
     pub fn read(alloc: Global, words: &'a [String]) -> Result<Arguments<'a>, Error> {
         // If something is wrong with the words, the error's text is made of the marked words.
-        command(alloc)?.try_get_matches_from(marked(alloc, words)?.as_slice())?;
+        command(alloc)?.try_get_matches_from(words_with_stand_ins(alloc, words)?.as_slice())?;
         let matches = command(alloc)?.try_get_matches_from(words)?;
         let types = matches.get_str("types");
         Ok(Arguments {
             signatures: types.or(matches.get_str("signatures")),
-            third: types.is_some(),
+            version_3: types.is_some(),
             requests: matches.get_str("requests"),
             resume: matches.get_str("resume"),
             save: matches.get_str("save"),
-            most: most_of(matches.get_one::<u32>("open")),
+            most: open_limit(matches.get_one::<u32>("open")),
             stream: matches.get_str("STREAM"),
         })
     }
 }
 
 /// The greatest number of open messages, by the argument for it. `clap` has checked its range.
-fn most_of(word: Option<u32>) -> u32
+fn open_limit(word: Option<u32>) -> u32
     ensures range { (1 ≤ result) × (result ≤ most_open) }
     ensures word { (n : ℕ) → word ≡ Some n → 1 ≤ n → n ≤ most_open → result ≡ n }
     ensures missing { word ≡ None → result ≡ 16 }

@@ -3,10 +3,10 @@ use Rattle.std.proofs.Common.{◌≡◌, ℕ, ◌+◌, ◌<◌, ◌≤◌, List,
 use Rattle.std.specs.Io.KnownBytes.{Consumes, Keeps}
 use Rattle.std.proofs.lemmas.Bool.{eq-eqb, ne_eqb, lt-ltb}
 use Rattle.std.proofs.lemmas.List.Elements.{All-nil, All-take}
-use Rattle.giop_print.specs.Output.{counted}
+use Rattle.giop_print.specs.Output.{saturating_next}
 use Rattle.giop_cdr.specs.Numbers.{AreOctets}
-use Rattle.giop_run.specs.SourceLog.{SourceLog, Gave, ReadFailed}
-use Rattle.giop_run.specs.Running.{IsEnded}
+use Rattle.giop_run.specs.SourceLog.{SourceLog, ReadGave, ReadFailed}
+use Rattle.giop_run.specs.Running.{ReadFoundEnd}
 use Rattle.giop_run.specs.RunSteps.{OneRead}
 
 pub consumes-same : (x : Option (List ℕ)) → Consumes x x []
@@ -37,8 +37,8 @@ read_none a b f =
     }
 
 -- if a read returns 0 and there was room, the source is at its end
-pub read_end : (a b : SourceLog) (into : List ℕ) (n : ℕ) → Gave a b into n → n ≡ 0 →
-    0 < length into → OneRead [] a b × IsEnded a b
+pub read_end : (a b : SourceLog) (into : List ℕ) (n : ℕ) → ReadGave a b into n → n ≡ 0 →
+    0 < length into → OneRead [] a b × ReadFoundEnd a b
 read_end a b into n g z some =
     let t1 = eq-eqb n 0 z in
     let t2 = lt-ltb 0 (length into) some in (
@@ -53,7 +53,7 @@ read_end a b into n g z some =
     )
 
 -- if a read gave octets, they are no more than there was room for
-pub read_some : (a b : SourceLog) (into : List ℕ) (n : ℕ) → Gave a b into n → AreOctets into →
+pub read_some : (a b : SourceLog) (into : List ℕ) (n : ℕ) → ReadGave a b into n → AreOctets into →
     length into ≡ 4096 → OneRead (take n into) a b
 read_some a b into n g o r =
     record {
@@ -64,14 +64,14 @@ read_some a b into n g o r =
     }
 
 -- if a read gave octets, the source isn't at its end
-pub not_end : (a b : SourceLog) (into : List ℕ) (n : ℕ) → Gave a b into n → (n ≡ 0 → ⊥) →
+pub not_end : (a b : SourceLog) (into : List ℕ) (n : ℕ) → ReadGave a b into n → (n ≡ 0 → ⊥) →
     b.ends ≡ a.ends
 not_end a b into n g some = let t = ne_eqb n 0 some in g.ends ∙ rw t refl
 
 -- one more read, in a count that has room for it
 pub one_more_read : (before so_far turns after most : ℕ) → so_far ≤ before + turns →
-    after ≡ counted so_far → turns < most → after ≤ before + most
-unfolding counted
+    after ≡ saturating_next so_far → turns < most → after ≤ before + most
+unfolding saturating_next
 one_more_read before so_far turns after most below one room = omega arith
 
 -- a list is a list of octets if each of its elements is an octet

@@ -12,8 +12,8 @@ use Rattle.giop_stream.specs.declared.status.Status.TheVariants.{Running, Stoppe
 use Rattle.giop_stream.specs.EngineView.{EngineView}
 use Rattle.giop_stream.proofs.StreamLaws.{added_both}
 use Rattle.giop_print.proofs.Writing.{wrote-nil}
-use Rattle.giop_run.specs.Running.{IsStopped}
-use Rattle.giop_run.specs.RunSteps.{IsRunning}
+use Rattle.giop_run.specs.Running.{HasStreamFault}
+use Rattle.giop_run.specs.RunSteps.{HasNoStreamFault}
 
 pub added-nil : (R : Rules) (p : List ℕ) → added R p [] ≡ []
 unfolding added
@@ -41,11 +41,12 @@ stopped_fault None f e = cc
 stopped_fault (Some o) f e = refl
 
 -- an engine with status Running holds a stream without a fault
-pub is_running : (p : List ℕ) → Running ≡ status_of (fault_of (cut p).stop) → IsRunning p
+pub is_running : (p : List ℕ) → Running ≡ status_of (fault_of (cut p).stop) → HasNoStreamFault p
 is_running p e = running_fault (cut p).stop e
 
 -- an engine with status Stopped holds a stream with a fault
-pub is_stopped : (p : List ℕ) (f : _) → Stopped f ≡ status_of (fault_of (cut p).stop) → IsStopped p
+pub is_stopped : (p : List ℕ) (f : _) → Stopped f ≡ status_of (fault_of (cut p).stop) →
+    HasStreamFault p
 is_stopped p f e = stopped_fault (cut p).stop f e
 
 not_both : (o : Option (ℕ × StreamFault)) → o ≡ None → IsSome o → ⊥
@@ -53,5 +54,5 @@ not_both None n s = cc
 not_both (Some o) n s = cc
 
 -- no stream is both running and stopped
-pub runs_or_stops : (p : List ℕ) → IsRunning p → IsStopped p → ⊥
+pub runs_or_stops : (p : List ℕ) → HasNoStreamFault p → HasStreamFault p → ⊥
 runs_or_stops p r s = not_both (cut p).stop r s

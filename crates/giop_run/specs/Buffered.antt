@@ -11,14 +11,14 @@ abbrev pub buffered : Buffer → List ℕ
 buffered b = take b.kept b.octets.items
 
 -- the octets that are kept back of lines
-abbrev pub lines_kept : {W : Type 0} → Lines W → List ℕ
-lines_kept l = buffered l.buffer
+abbrev pub lines_kept_back : {W : Type 0} → Lines W → List ℕ
+lines_kept_back l = buffered l.buffer
 
 -- the log of lines: what the writer has, and after it the octets that are kept back; and all puts,
 -- of which a count of 2^64 - 1 stays. `contents` is the writer's log
-abbrev pub lines_log : {W : Type 0} → (W → Option (List ℕ)) → Lines W → OutLog
+abbrev pub lines_log : {W : Type 0} (contents : W → Option (List ℕ)) (l : Lines W) → OutLog
 lines_log contents l = record {
-  written = append_known (contents l.writer) (lines_kept l);
+  written = append_known (contents l.writer) (lines_kept_back l);
   puts = min (l.puts + l.buffer.recent) (2 ^ 64 - 1);
   failures = l.failures;
 }

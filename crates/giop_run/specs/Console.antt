@@ -2,7 +2,7 @@
 use Rattle.std.specs.Prelude.{ℕ, ◌==◌, List, [], Option, Some, None, Result, Ok, Err, if◌then◌else◌}
 use Rattle.giop_print.specs.Output.{OutLog}
 use Rattle.giop_stream.specs.declared.status.Totals.{Totals}
-use Rattle.giop_run.specs.SourceLog.{SourceLog, unread}
+use Rattle.giop_run.specs.SourceLog.{SourceLog, unread_source}
 use Rattle.giop_run.specs.Looks.{look_words, reason_words}
 use Rattle.giop_run.specs.Running.{RunSetup, Ran}
 use Rattle.giop_run.specs.declared.running.Report.{Report}
@@ -11,11 +11,11 @@ use Rattle.giop_run.specs.declared.fault.ProgramError.{ProgramError}
 use Rattle.giop_run.specs.declared.fault.ProgramError.TheVariants as faults
 
 -- a run whose engine held p did this with a source of these octets and an out
-pub record Dumped (w : RunSetup) (ran : Result Report RunFault) (p : List ℕ)
-    (told : Option (List ℕ)) (x y : OutLog) : Type 0 where
+pub record Dumped (setup : RunSetup) (ran : Result Report RunFault) (stream : List ℕ)
+    (given : Option (List ℕ)) (old new : OutLog) : Type 0 where
   pub octets : List ℕ
   pub after : SourceLog
-  pub did : Ran w ran p octets (unread told) after x y
+  pub did : Ran setup ran stream octets (unread_source given) after old new
 
 -- the status of a failure: 2 if the words of the command line are no text, 3 if a file is refused,
 -- 4 if a file can't be read or written or a run failed, 5 if there is no memory
@@ -30,15 +30,15 @@ fault_status (faults.Run fault) = 4
 fault_status faults.OutOfMemory = 5
 
 -- the words that giopcap prints after a fault
-abbrev pub fault_words : ProgramError → List ℕ
-fault_words (faults.Signatures name fault look) = look_words look
-fault_words (faults.Unreadable name why) = reason_words why
-fault_words faults.Words = []
-fault_words (faults.Requests name fault) = []
-fault_words (faults.Checkpoint name fault) = []
-fault_words (faults.Unwritable name) = []
-fault_words (faults.Run fault) = []
-fault_words faults.OutOfMemory = []
+abbrev pub fault_explanation : ProgramError → List ℕ
+fault_explanation (faults.Signatures name fault look) = look_words look
+fault_explanation (faults.Unreadable name why) = reason_words why
+fault_explanation faults.Words = []
+fault_explanation (faults.Requests name fault) = []
+fault_explanation (faults.Checkpoint name fault) = []
+fault_explanation (faults.Unwritable name) = []
+fault_explanation (faults.Run fault) = []
+fault_explanation faults.OutOfMemory = []
 
 -- the fault of the run, if it is a run that failed
 abbrev pub run_fault : ProgramError → Option RunFault
@@ -52,14 +52,14 @@ run_fault (faults.Unwritable name) = None
 run_fault faults.OutOfMemory = None
 
 -- the result of a run that failed with this fault
-abbrev pub ran_as : Option RunFault → Option (Result Report RunFault)
-ran_as (Some fault) = Some (Err fault)
-ran_as None = None
+abbrev pub failed_run_result : Option RunFault → Option (Result Report RunFault)
+failed_run_result (Some fault) = Some (Err fault)
+failed_run_result None = None
 
 -- the result of the run, by the result of the program; None if a step before the run failed
-abbrev pub run_of : Result Report ProgramError → Option (Result Report RunFault)
-run_of (Ok report) = Some (Ok report)
-run_of (Err fault) = ran_as (run_fault fault)
+abbrev pub run_result : Result Report ProgramError → Option (Result Report RunFault)
+run_result (Ok report) = Some (Ok report)
+run_result (Err fault) = failed_run_result (run_fault fault)
 
 -- the program's status: 0 if no fault was counted, 1 if one was, or the status of the failure
 abbrev pub exit_status : Result Totals ProgramError → ℕ

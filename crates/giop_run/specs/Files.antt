@@ -1,17 +1,17 @@
 -- What a run takes from the files that the arguments name (meaning). `held` tells what the file of
 -- a name holds, if that is known. A name is its text, or None if there is no file.
 use Rattle.std.specs.Prelude.{◌≡◌, ℕ, ◌<◌, ◌≤◌, Bool, if◌then◌else◌, List, [], length, take, Option, None, Some, IfSome, ◌⊎◌}
-use Rattle.giop_print.specs.Output.{counted}
+use Rattle.giop_print.specs.Output.{saturating_next}
 use Rattle.giop_sig.specs.Builtin.{builtin_table}
 use Rattle.giop_sig.specs.Grammar.{SignatureFile}
 use Rattle.giop_sig.specs.Scopes.{table}
 use Rattle.giop_sig.specs.Table.{Table, asked_number}
 use Rattle.giop_sig.specs.FileReading.{text_too_long, IsFirstRefusalUpTo}
 use Rattle.giop_sig.specs.Validity.{IsValid, SpellsUpTo}
-use Rattle.giop_sig.specs.RequestList.{Entry, Lists, IsOf, IsRefusedAs, third_in}
+use Rattle.giop_sig.specs.RequestList.{Entry, Lists, AgreesWithList, IsRefusedAs, allows_third_word}
 use Rattle.giop_message.specs.Signatures.{RequestTable}
 use Rattle.giop_checkpoint.specs.declared.fixed.Counts.{Counts}
-use Rattle.giop_checkpoint.specs.Refusals.{IsOurs}
+use Rattle.giop_checkpoint.specs.Refusals.{PassesUpToCounts}
 use Rattle.giop_stream.specs.Checkpoint.{counts_of, IsRefused, Spells}
 use Rattle.giop_run.specs.Looks.{looks_of, HasReason}
 use Rattle.giop_run.specs.Running.{RunSetup}
@@ -23,21 +23,21 @@ use Rattle.giop_run.specs.declared.fault.ProgramError.{ProgramError}
 use Rattle.giop_run.specs.declared.fault.ProgramError.TheVariants as faults
 
 -- what the file of a name holds, if that is known
-abbrev pub Folder : Type 0
-Folder = List ℕ → Option (List ℕ)
+abbrev pub KnownFiles : Type 0
+KnownFiles = List ℕ → Option (List ℕ)
 
 -- the errors for which the file of a name can't be opened or read
-abbrev pub Refusals : Type 1
-Refusals = List ℕ → ErrorKind → Type 0
+abbrev pub FileErrors : Type 1
+FileErrors = List ℕ → ErrorKind → Type 0
 
 -- The file of a name can't be read, and this is the reason.
-abbrev pub CannotRead : Refusals → List ℕ → Reason → Type 0
+abbrev pub CannotRead : (refuses : FileErrors) (name : List ℕ) (why : Reason) → Type 0
 CannotRead refuses name why = (kind : ErrorKind) × refuses name kind × HasReason kind why
 
 -- the text is what is read of a file that may have at most `most` octets: all of it, or its first
 -- `most` + 1 octets
-abbrev pub IsFront : ℕ → Option (List ℕ) → List ℕ → Type 0
-IsFront most held text = IfSome held (λ octets. text ≡ take (counted most) octets)
+abbrev pub IsReadToOneOver : (most : ℕ) (held : Option (List ℕ)) (text : List ℕ) → Type 0
+IsReadToOneOver most held text = IfSome held (λ octets. text ≡ take (saturating_next most) octets)
 
 -- the greatest sizes, in octets, of a signature file, of a request list and of a checkpoint
 abbrev pub signatures_most : ℕ
@@ -49,76 +49,87 @@ requests_most = 16777216
 abbrev pub checkpoint_most : ℕ
 checkpoint_most = 3408800
 
--- the latest version of signature files that is read: the third if `third` says so, else the second
-abbrev pub latest : Bool → ℕ
-latest third = if third then 3 else 2
+-- the latest version of signature files that is read: the third if `version_3` says so, else the
+-- second
+abbrev pub latest_version : (version_3 : Bool) → ℕ
+latest_version version_3 = if version_3 then 3 else 2
 
 -- the text is a valid signature file of a version up to the latest, and C is its table
-pub record Declares (latest : ℕ) (text : List ℕ) (C : Table) : Type 0 where
+pub record Declares (latest_version : ℕ) (text : List ℕ) (C : Table) : Type 0 where
   pub file : SignatureFile
-  pub spelled : SpellsUpTo latest text file
+  pub spelled : SpellsUpTo latest_version text file
   pub valid : IsValid file
   pub is : C ≡ table file
 
 -- the text is a request list for a catalogue, and `kept` is its request table for the catalogue's
 -- operations
-pub record Requests (text : List ℕ) (C : Table) (kept : RequestTable) : Type 0 where
+pub record ListsRequests (text : List ℕ) (C : Table) (kept : RequestTable) : Type 0 where
   pub entries : List Entry
-  pub lists : Lists (third_in C) text entries
-  pub is : IsOf (asked_number C) entries kept
+  pub lists : Lists (allows_third_word C) text entries
+  pub is : AgreesWithList (asked_number C) entries kept
 
 -- the catalogue of the signature file, or of the built-in types if there is no file
-abbrev pub CatalogueOf : Folder → ℕ → Option (List ℕ) → Table → Type 0
-CatalogueOf held latest None C = C ≡ builtin_table
-CatalogueOf held latest (Some name) C =
-    (text : List ℕ) × IsFront signatures_most (held name) text × Declares latest text C
+abbrev pub CatalogueOf : (held : KnownFiles) (latest_version : ℕ) (name : Option (List ℕ))
+    (C : Table) → Type 0
+CatalogueOf held latest_version None C = C ≡ builtin_table
+CatalogueOf held latest_version (Some name) C =
+    (text : List ℕ) × IsReadToOneOver signatures_most (held name) text × Declares latest_version
+    text C
 
 -- the request table of the request file, or the empty table if there is no file
-abbrev pub RequestsOf : Folder → Option (List ℕ) → Table → RequestTable → Type 0
+abbrev pub RequestsOf : (held : KnownFiles) (name : Option (List ℕ)) (C : Table)
+    (kept : RequestTable) →
+    Type 0
 RequestsOf held None C kept = kept ≡ []
 RequestsOf held (Some name) C kept =
-    (text : List ℕ) × IsFront requests_most (held name) text × Requests text C kept
+    (text : List ℕ) × IsReadToOneOver requests_most (held name) text × ListsRequests text C kept
 
 -- If there is a checkpoint file, `Is` holds of each stream that the file's octets are a checkpoint
 -- of, with its number of open messages. If there is no file, `Is` holds of the empty stream, with
 -- the number that the arguments ask for.
-abbrev pub GoesOn : Folder → Option (List ℕ) → ℕ → Table → RequestTable → (ℕ → List ℕ → Type 0) →
-    Type 0
-GoesOn held None most C kept Is = Is most []
-GoesOn held (Some name) most C kept Is =
-    (octets : List ℕ) × IsFront checkpoint_most (held name) octets
-    × IsOurs (counts_of C kept) octets
+abbrev pub HoldsOfResumed : (held : KnownFiles) (name : Option (List ℕ)) (most : ℕ) (C : Table)
+    (kept : RequestTable) (Is : ℕ → List ℕ → Type 0) → Type 0
+HoldsOfResumed held None most C kept Is = Is most []
+HoldsOfResumed held (Some name) most C kept Is =
+    (octets : List ℕ) × IsReadToOneOver checkpoint_most (held name) octets
+    × PassesUpToCounts (counts_of C kept) octets
     × ((n : ℕ) (p : List ℕ) → Spells octets C kept n p → Is n p)
 
 -- the octets of the stream: those of the file, or those of standard input if there is no file
-abbrev pub stream_of : Folder → Option (List ℕ) → Option (List ℕ) → Option (List ℕ)
-stream_of held given None = given
-stream_of held given (Some name) = held name
+abbrev pub stream_octets : (held : KnownFiles) (standard_input name : Option (List ℕ)) →
+    Option (List ℕ)
+stream_octets held given None = given
+stream_octets held given (Some name) = held name
 
 -- why there is no catalogue: there is no memory, or the signature file can't be read, or it is
 -- refused; the fault has the file's name, and tells what its text looks like
-abbrev pub NoCatalogue : Folder → Refusals → ℕ → Option (List ℕ) → ProgramError → Type 0
-NoCatalogue held refuses latest asked (faults.Signatures name why look) =
+abbrev pub NoCatalogue : (held : KnownFiles) (refuses : FileErrors) (latest_version : ℕ)
+    (asked : Option (List ℕ))
+    (fault : ProgramError) → Type 0
+NoCatalogue held refuses latest_version asked (faults.Signatures name why look) =
     (asked ≡ Some name.now)
-    × ((text : List ℕ) × IsFront signatures_most (held name.now) text × (look ≡ looks_of text)
+    × ((text : List ℕ) × IsReadToOneOver signatures_most (held name.now) text
+    × (look ≡ looks_of text)
     × (signatures_most < length text → why ≡ text_too_long)
-    × (length text ≤ signatures_most → IsFirstRefusalUpTo latest text why))
-NoCatalogue held refuses latest asked (faults.Unreadable name why) =
+    × (length text ≤ signatures_most → IsFirstRefusalUpTo latest_version text why))
+NoCatalogue held refuses latest_version asked (faults.Unreadable name why) =
     (asked ≡ Some name.now) × CannotRead refuses name.now why
-NoCatalogue held refuses latest asked faults.OutOfMemory = Unit {0}
-NoCatalogue held refuses latest asked faults.Words = ⊥
-NoCatalogue held refuses latest asked (faults.Requests name why) = ⊥
-NoCatalogue held refuses latest asked (faults.Checkpoint name why) = ⊥
-NoCatalogue held refuses latest asked (faults.Unwritable name) = ⊥
-NoCatalogue held refuses latest asked (faults.Run why) = ⊥
+NoCatalogue held refuses latest_version asked faults.OutOfMemory = Unit {0}
+NoCatalogue held refuses latest_version asked faults.Words = ⊥
+NoCatalogue held refuses latest_version asked (faults.Requests name why) = ⊥
+NoCatalogue held refuses latest_version asked (faults.Checkpoint name why) = ⊥
+NoCatalogue held refuses latest_version asked (faults.Unwritable name) = ⊥
+NoCatalogue held refuses latest_version asked (faults.Run why) = ⊥
 
 -- why there is no request list for a catalogue: there is no memory, or the request file can't be
 -- read, or it is refused; the fault has the file's name
-abbrev pub NoRequests : Folder → Refusals → Table → Option (List ℕ) → ProgramError → Type 0
+abbrev pub NoRequests : (held : KnownFiles) (refuses : FileErrors) (C : Table)
+    (asked : Option (List ℕ))
+    (fault : ProgramError) → Type 0
 NoRequests held refuses C asked (faults.Requests name why) =
     (asked ≡ Some name.now)
-    × ((text : List ℕ) × IsFront requests_most (held name.now) text
-    × IsRefusedAs (third_in C) text why.line why.kind)
+    × ((text : List ℕ) × IsReadToOneOver requests_most (held name.now) text
+    × IsRefusedAs (allows_third_word C) text why.line why.kind)
 NoRequests held refuses C asked (faults.Unreadable name why) =
     (asked ≡ Some name.now) × CannotRead refuses name.now why
 NoRequests held refuses C asked faults.OutOfMemory = Unit {0}
@@ -130,10 +141,11 @@ NoRequests held refuses C asked (faults.Run why) = ⊥
 
 -- why no checkpoint is loaded: there is no memory, or its file can't be read, or it is refused; the
 -- fault has the file's name
-abbrev pub NoCheckpoint : Folder → Refusals → Option (List ℕ) → Counts → ProgramError → Type 0
+abbrev pub NoCheckpoint : (held : KnownFiles) (refuses : FileErrors) (asked : Option (List ℕ))
+    (counts : Counts) (fault : ProgramError) → Type 0
 NoCheckpoint held refuses asked counts (faults.Checkpoint name why) =
     (asked ≡ Some name.now)
-    × ((octets : List ℕ) × IsFront checkpoint_most (held name.now) octets
+    × ((octets : List ℕ) × IsReadToOneOver checkpoint_most (held name.now) octets
     × IsRefused counts octets why)
 NoCheckpoint held refuses asked counts (faults.Unreadable name why) =
     (asked ≡ Some name.now) × CannotRead refuses name.now why
@@ -146,7 +158,8 @@ NoCheckpoint held refuses asked counts (faults.Run why) = ⊥
 
 -- why the stream isn't opened: there is no memory, or its file can't be opened; the fault has the
 -- file's name
-abbrev pub NoStream : Refusals → Option (List ℕ) → ProgramError → Type 0
+abbrev pub NoStream : (refuses : FileErrors) (asked : Option (List ℕ)) (fault : ProgramError) →
+    Type 0
 NoStream refuses asked (faults.Unreadable name why) =
     (asked ≡ Some name.now) × CannotRead refuses name.now why
 NoStream refuses asked faults.OutOfMemory = Unit {0}
@@ -161,7 +174,7 @@ NoStream refuses asked (faults.Run why) = ⊥
 -- may have, and the number of open messages for a new stream
 pub record Asked : Type 0 where
   pub signatures : Option (List ℕ)
-  pub latest : ℕ
+  pub latest_version : ℕ
   pub requests : Option (List ℕ)
   pub resume : Option (List ℕ)
   pub save : Option (List ℕ)
@@ -169,25 +182,27 @@ pub record Asked : Type 0 where
   pub stream : Option (List ℕ)
 
 -- how a run ends: its engine is kept if the arguments name a file to save
-abbrev pub ending_of : Option (List ℕ) → Ending
-ending_of None = endings.Finish
-ending_of (Some name) = endings.Keep
+abbrev pub ending_by_save : (save : Option (List ℕ)) → Ending
+ending_by_save None = endings.Finish
+ending_by_save (Some name) = endings.Keep
 
 -- the setup of a run: its tables, the number of messages that may be open, and how it ends
-abbrev pub setup_by : Table → RequestTable → ℕ → Asked → RunSetup
-setup_by C kept n asked =
-    record { table = C; request_table = kept; most = n; ending = ending_of asked.save }
+abbrev pub setup_by : (C : Table) (kept : RequestTable) (count : ℕ) (asked : Asked) → RunSetup
+setup_by C kept count asked =
+    record { table = C; request_table = kept; most = count; ending = ending_by_save asked.save }
 
 -- the catalogue and the request table are those of the files
-pub record ReadsBy (held : Folder) (asked : Asked) (C : Table) (kept : RequestTable) : Type 0 where
-  pub catalogue : CatalogueOf held asked.latest asked.signatures C
+pub record ReadsBy (held : KnownFiles) (asked : Asked) (C : Table)
+    (kept : RequestTable) : Type 0 where
+  pub catalogue : CatalogueOf held asked.latest_version asked.signatures C
   pub requests : RequestsOf held asked.requests C kept
 
 -- a step before the run failed for this reason; the steps before it succeeded
-abbrev pub Refused : Folder → Refusals → Asked → ProgramError → Type 0
-Refused held refuses asked fault =
-    NoCatalogue held refuses asked.latest asked.signatures fault
-    ⊎ ((C : Table) × CatalogueOf held asked.latest asked.signatures C
+abbrev pub StepFailed : (held : KnownFiles) (refuses : FileErrors) (asked : Asked)
+    (fault : ProgramError) → Type 0
+StepFailed held refuses asked fault =
+    NoCatalogue held refuses asked.latest_version asked.signatures fault
+    ⊎ ((C : Table) × CatalogueOf held asked.latest_version asked.signatures C
     × NoRequests held refuses C asked.requests fault)
     ⊎ ((C : Table) × (kept : RequestTable) × ReadsBy held asked C kept
     × (NoCheckpoint held refuses asked.resume (counts_of C kept) fault

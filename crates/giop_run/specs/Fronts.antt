@@ -5,7 +5,8 @@ use Rattle.giop_run.specs.SourceLog.{SourceLog}
 
 -- a read gave at most `most` octets, and they were appended to those before; if it gave none though
 -- it could, nothing is left
-pub record Appended (before after : SourceLog) (old new : List ℕ) (most : ℕ) (some : Bool) : Type 0
+pub record AppendedOneRead (before after : SourceLog) (old new : List ℕ) (most : ℕ)
+    (some : Bool) : Type 0
   where
     pub given : List ℕ
     pub left : Consumes before.left after.left given

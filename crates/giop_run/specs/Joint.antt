@@ -9,38 +9,41 @@ use Rattle.giop_tokens.specs.declared.fault.SigFault.{SigFault}
 use Rattle.giop_sig_files.specs.declared.places.SignatureText.{SignatureText}
 use Rattle.giop_sig_files.specs.Joined.{joined}
 use Rattle.giop_sig_files.specs.Places.{place}
-use Rattle.giop_sig_files.specs.Names.{DeclareSame}
+use Rattle.giop_sig_files.specs.Names.{DeclareSameName}
 use Rattle.giop_run.specs.Looks.{looks_of}
-use Rattle.giop_run.specs.Files.{Folder, Refusals, CannotRead, signatures_most, IsFront, Declares}
+use Rattle.giop_run.specs.Files.{KnownFiles, FileErrors, CannotRead, signatures_most, IsReadToOneOver, Declares}
 use Rattle.giop_run.specs.declared.reason.Look.{Look}
 use Rattle.giop_run.specs.declared.reason.Look.TheVariants as looks
 use Rattle.giop_run.specs.declared.fault.ProgramError.{ProgramError}
 use Rattle.giop_run.specs.declared.fault.ProgramError.TheVariants as faults
 
 -- these are the files of these names, each with the text that is read of it
-pub record AreRead (held : Folder) (names : List (List ℕ)) (files : List SignatureText) : Type 0
+pub record AreRead (held : KnownFiles) (names : List (List ℕ)) (files : List SignatureText) : Type 0
   where
     pub names_are : map (λ f. f.name.now) files ≡ names
-    pub texts : All (λ f. IsFront signatures_most (held f.name.now) f.text.items) files
+    pub texts : All (λ f. IsReadToOneOver signatures_most (held f.name.now) f.text.items) files
 
 -- the text that the files are read as: one after another
-abbrev pub text_of : List SignatureText → List ℕ
-text_of files = joined (map (λ f. f.text.items) files)
+abbrev pub joint_text : (files : List SignatureText) → List ℕ
+joint_text files = joined (map (λ f. f.text.items) files)
 
 -- the catalogue of the signature files of these names, of any version, or of the built-in types if
 -- there is no name
-abbrev pub CataloguesOf : Folder → List (List ℕ) → Table → Type 0
+abbrev pub CataloguesOf : (held : KnownFiles) (names : List (List ℕ)) (C : Table) → Type 0
 CataloguesOf held [] C = C ≡ builtin_table
 CataloguesOf held (name ∷ names) C =
-    (files : List SignatureText) × AreRead held (name ∷ names) files × Declares 3 (text_of files) C
+    (files : List SignatureText) × AreRead held (name ∷ names) files
+    × Declares 3 (joint_text files) C
 
 -- What is printed after the refusal of a line in the text of these files together: what the line's
 -- file looks like, or which earlier line declares the same name.
-abbrev pub IsLook : SignatureText → List SignatureText → SigFault → Look → Type 0
-IsLook first others fault look =
+abbrev pub IsLookOfRefusal : (first : SignatureText) (others : List SignatureText)
+    (fault : SigFault)
+    (look : Look) → Type 0
+IsLookOfRefusal first others fault look =
     (look ≡ looks_of ((place first others fault.line).0.text.items))
     ⊎ ((above : ℕ) × (above < fault.line)
-    × DeclareSame (text_of (first ∷ others)) above fault.line
+    × DeclareSameName (joint_text (first ∷ others)) above fault.line
     × (look ≡ looks.Declared ((place first others above).0.name) ((place first others above).1)))
 
 -- The text of the files together is refused for this reason. The refusal tells the file and the
@@ -50,26 +53,28 @@ pub record IsRefusal (first : SignatureText) (others : List SignatureText) (faul
   pub kind : why.kind ≡ fault.kind
   pub line : why.line ≡ (place first others fault.line).1
   pub named : name ≡ (place first others fault.line).0.name.now
-  pub look_is : IsLook first others fault look
-  pub long : signatures_most < length (text_of (first ∷ others)) → fault ≡ text_too_long
-  pub refused : length (text_of (first ∷ others)) ≤ signatures_most
-      → IsFirstRefusalUpTo 3 (text_of (first ∷ others)) fault
+  pub look_is : IsLookOfRefusal first others fault look
+  pub long : signatures_most < length (joint_text (first ∷ others)) → fault ≡ text_too_long
+  pub refused : length (joint_text (first ∷ others)) ≤ signatures_most
+      → IsFirstRefusalUpTo 3 (joint_text (first ∷ others)) fault
 
 -- the text of these files together is refused
-abbrev pub IsRefused : List SignatureText → ProgramError → Type 0
+abbrev pub IsRefused : (files : List SignatureText) (fault : ProgramError) → Type 0
 IsRefused (first ∷ others) (faults.Signatures name why look) =
     (fault : SigFault) × IsRefusal first others fault why name.now look
 IsRefused files fault = ⊥
 
 -- one of the files of these names can't be read
-abbrev pub IsUnreadable : Refusals → List (List ℕ) → ProgramError → Type 0
+abbrev pub IsUnreadable : (refuses : FileErrors) (names : List (List ℕ)) (fault : ProgramError) →
+    Type 0
 IsUnreadable refuses names (faults.Unreadable name why) =
     Contains names name.now × CannotRead refuses name.now why
 IsUnreadable refuses names fault = ⊥
 
 -- why there is no catalogue: there is no memory, or one of the files can't be read, or their text
 -- is refused
-abbrev pub NoCatalogues : Folder → Refusals → List (List ℕ) → ProgramError → Type 0
+abbrev pub NoCatalogues : (held : KnownFiles) (refuses : FileErrors) (names : List (List ℕ))
+    (fault : ProgramError) → Type 0
 NoCatalogues held refuses names fault =
     (fault ≡ faults.OutOfMemory) ⊎ IsUnreadable refuses names fault
     ⊎ ((files : List SignatureText) × AreRead held names files × IsRefused files fault)

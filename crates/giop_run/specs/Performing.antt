@@ -4,12 +4,12 @@ use Rattle.std.specs.Prelude.{◌≡◌, ℕ, List, Option, None, Some, Result, 
 use Rattle.giop_print.specs.Output.{OutLog}
 use Rattle.giop_sig.specs.Table.{Table}
 use Rattle.giop_message.specs.Signatures.{RequestTable}
-use Rattle.giop_stream.specs.EngineHolds.{AreOf}
+use Rattle.giop_stream.specs.EngineHolds.{IsRequestTableOf}
 use Rattle.giop_stream.specs.EngineView.{EngineView}
 use Rattle.giop_stream.specs.declared.status.Totals.{Totals}
 use Rattle.giop_run.specs.Console.{Dumped}
-use Rattle.giop_run.specs.Files.{Folder, Refusals, Asked, GoesOn, ReadsBy, Refused, stream_of, setup_by}
-use Rattle.giop_run.specs.Saving.{Saved, SavedMore}
+use Rattle.giop_run.specs.Files.{KnownFiles, FileErrors, Asked, HoldsOfResumed, ReadsBy, StepFailed, stream_octets, setup_by}
+use Rattle.giop_run.specs.Saving.{Saved, SavedOneMore}
 use Rattle.giop_run.specs.declared.running.Report.{Report}
 use Rattle.giop_run.specs.declared.fault.RunFault.{RunFault}
 use Rattle.giop_run.specs.declared.fault.RunFault.TheVariants as fault
@@ -19,84 +19,90 @@ use Rattle.giop_run.specs.declared.fault.ProgramError.TheVariants as faults
 -- what the arguments ask for, and what can be read, if it is known: the files by their names, the
 -- errors for which they can't be read, and standard input
 pub record Task : Type 1 where
-  pub held : Folder
-  pub refuses : Refusals
+  pub held : KnownFiles
+  pub refuses : FileErrors
   pub given : Option (List ℕ)
   pub asked : Asked
 
-abbrev pub task_of : Folder → Refusals → Option (List ℕ) → Asked → Task
+abbrev pub task_of : (held : KnownFiles) (refuses : FileErrors) (given : Option (List ℕ))
+    (asked : Asked) → Task
 task_of held refuses given asked =
     record { held = held; refuses = refuses; given = given; asked = asked }
 
 -- The run read what the arguments name: the stream, by the catalogue and the request list of the
 -- files, from the checkpoint on.
-pub record Performed (t : Task) (ran : Result Report RunFault) (x y : OutLog) : Type 0 where
+pub record Performed (task : Task) (ran : Result Report RunFault) (old new : OutLog) : Type 0 where
   pub table : Table
   pub request_table : RequestTable
-  pub of : AreOf table request_table
-  pub reads : ReadsBy t.held t.asked table request_table
-  pub dumped : GoesOn t.held t.asked.resume t.asked.most table request_table (λ n p. Dumped
-      (setup_by table request_table n t.asked) ran p
-      (stream_of t.held t.given t.asked.stream) x y)
+  pub of : IsRequestTableOf table request_table
+  pub reads : ReadsBy task.held task.asked table request_table
+  pub dumped : HoldsOfResumed task.held task.asked.resume task.asked.most table request_table
+      (λ n p. Dumped
+      (setup_by table request_table n task.asked) ran p
+      (stream_octets task.held task.given task.asked.stream) old new)
 
 -- the checkpoint of the engine that was kept is saved in the file that the arguments name; if they
 -- name none, nothing is saved
-abbrev pub SavedIn : Option (List ℕ) → Option EngineView → Option (List Saved)
-    → Option (List Saved) → Type 0
-SavedIn None kept a b = b ≡ a
-SavedIn (Some name) None a b = ⊥
-SavedIn (Some name) (Some e) a b = SavedMore a b name e
+abbrev pub SavedIn : (name : Option (List ℕ)) (kept : Option EngineView)
+    (old new : Option (List Saved)) → Type 0
+SavedIn None kept old new = new ≡ old
+SavedIn (Some name) None old new = ⊥
+SavedIn (Some name) (Some e) old new = SavedOneMore old new name e
 
 -- The run succeeded, and its checkpoint is saved if the arguments ask for that.
-pub record Completed (t : Task) (totals : Totals) (x y : OutLog) (a b : Option (List Saved))
+pub record PerformedAndSaved (task : Task) (totals : Totals) (old new : OutLog)
+    (saved_before saved_after : Option (List Saved))
     : Type 0 where
   pub report : Report
-  pub run : Performed t (Ok report) x y
+  pub run : Performed task (Ok report) old new
   pub totals_are : totals ≡ report.totals
-  pub saved : SavedIn t.asked.save report.kept a b
+  pub saved : SavedIn task.asked.save report.kept saved_before saved_after
 
 -- The run failed.
-pub record Broken (t : Task) (why : RunFault) (x y : OutLog) : Type 0 where
-  pub run : Performed t (Err why) x y
+pub record RunHasFailed (task : Task) (why : RunFault) (old new : OutLog) : Type 0 where
+  pub run : Performed task (Err why) old new
 
 -- The run succeeded, but the file for its checkpoint can't be written.
-pub record Unsaved (t : Task) (name : List ℕ) (x y : OutLog) : Type 0 where
-  pub named : t.asked.save ≡ Some name
+pub record RunIsUnsaved (task : Task) (name : List ℕ) (old new : OutLog) : Type 0 where
+  pub named : task.asked.save ≡ Some name
   pub report : Report
-  pub run : Performed t (Ok report) x y
+  pub run : Performed task (Ok report) old new
 
 -- A step before the run failed, and nothing is written.
-pub record NotRun (t : Task) (why : ProgramError) (x y : OutLog) : Type 0 where
-  pub refused : Refused t.held t.refuses t.asked why
-  pub unwritten : y ≡ x
+pub record NotRun (task : Task) (why : ProgramError) (old new : OutLog) : Type 0 where
+  pub refused : StepFailed task.held task.refuses task.asked why
+  pub unwritten : new ≡ old
 
 -- what the program did, by the fault with which it failed; the engine of its run is never one that
 -- had failed
-abbrev pub FailedBy : Task → ProgramError → OutLog → OutLog → Type 0
-FailedBy t (faults.Run fault.Failed) x y = ⊥
-FailedBy t (faults.Run fault.Read) x y = Broken t fault.Read x y
-FailedBy t (faults.Run fault.Turns) x y = Broken t fault.Turns x y
-FailedBy t (faults.Run fault.Out) x y = Broken t fault.Out x y
-FailedBy t (faults.Unwritable name) x y = Unsaved t name.now x y
-FailedBy t faults.Words x y = ⊥
-FailedBy t (faults.Signatures name why look) x y = NotRun t (faults.Signatures name why look) x y
-FailedBy t (faults.Requests name why) x y = NotRun t (faults.Requests name why) x y
-FailedBy t (faults.Checkpoint name why) x y = NotRun t (faults.Checkpoint name why) x y
-FailedBy t (faults.Unreadable name why) x y = NotRun t (faults.Unreadable name why) x y
-FailedBy t faults.OutOfMemory x y = NotRun t faults.OutOfMemory x y
+abbrev pub FailedBy : (t : Task) (fault : ProgramError) (old new : OutLog) → Type 0
+FailedBy t (faults.Run fault.Failed) old new = ⊥
+FailedBy t (faults.Run fault.Read) old new = RunHasFailed t fault.Read old new
+FailedBy t (faults.Run fault.Turns) old new = RunHasFailed t fault.Turns old new
+FailedBy t (faults.Run fault.Out) old new = RunHasFailed t fault.Out old new
+FailedBy t (faults.Unwritable name) old new = RunIsUnsaved t name.now old new
+FailedBy t faults.Words old new = ⊥
+FailedBy t (faults.Signatures name why look) old new =
+    NotRun t (faults.Signatures name why look) old new
+FailedBy t (faults.Requests name why) old new = NotRun t (faults.Requests name why) old new
+FailedBy t (faults.Checkpoint name why) old new = NotRun t (faults.Checkpoint name why) old new
+FailedBy t (faults.Unreadable name why) old new = NotRun t (faults.Unreadable name why) old new
+FailedBy t faults.OutOfMemory old new = NotRun t faults.OutOfMemory old new
 
 -- what the program did, by its result; if it failed, nothing is saved
-abbrev pub Did : Task → Result Totals ProgramError → OutLog → OutLog → Option (List Saved)
-    → Option (List Saved) → Type 0
-Did t (Ok totals) x y a b = Completed t totals x y a b
-Did t (Err why) x y a b = FailedBy t why x y × (b ≡ a)
+abbrev pub HasPerformed : (t : Task) (result : Result Totals ProgramError) (old new : OutLog)
+    (saved_before saved_after : Option (List Saved)) → Type 0
+HasPerformed t (Ok totals) old new saved_before saved_after =
+    PerformedAndSaved t totals old new saved_before saved_after
+HasPerformed t (Err why) old new saved_before saved_after =
+    FailedBy t why old new × (saved_after ≡ saved_before)
 
 -- what the last step did: its result is the run's, or the fault that the file which the arguments
 -- name can't be written
-abbrev pub Kept : Option (List ℕ) → Result Report ProgramError → Result Totals ProgramError
-    → Option (List Saved) → Option (List Saved) → Type 0
-Kept asked (Ok report) (Ok totals) a b =
-    (totals ≡ report.totals) × SavedIn asked report.kept a b
-Kept asked (Ok report) (Err why) a b =
-    (b ≡ a) × ((name : _) × (why ≡ faults.Unwritable name) × (asked ≡ Some name.now))
-Kept asked (Err why) result a b = (result ≡ Err why) × (b ≡ a)
+abbrev pub HasSaved : (asked : Option (List ℕ)) (ran : Result Report ProgramError)
+    (result : Result Totals ProgramError) (old new : Option (List Saved)) → Type 0
+HasSaved asked (Ok report) (Ok totals) old new =
+    (totals ≡ report.totals) × SavedIn asked report.kept old new
+HasSaved asked (Ok report) (Err why) old new =
+    (new ≡ old) × ((name : _) × (why ≡ faults.Unwritable name) × (asked ≡ Some name.now))
+HasSaved asked (Err why) result old new = (result ≡ Err why) × (new ≡ old)

@@ -11,29 +11,30 @@ pub record Saved : Type 0 where
   pub octets : List ℕ
 
 -- These octets are the checkpoint of each stream that the engine holds.
-abbrev pub SpellsAll : EngineView → List ℕ → Type 0
+abbrev pub SpellsAll : (e : EngineView) (octets : List ℕ) → Type 0
 SpellsAll e octets = (p : List ℕ) → Holds e p → Spells octets e.table e.request_table e.most p
 
 -- a checkpoint of the engine was saved in the file of this name, if the saved files are known
-abbrev pub SavedMore : Option (List Saved) → Option (List Saved) → List ℕ → EngineView → Type 0
-SavedMore None after name e = Unit {0}
-SavedMore (Some before) after name e =
+abbrev pub SavedOneMore : (before after : Option (List Saved)) (name : List ℕ) (e : EngineView) →
+    Type 0
+SavedOneMore None after name e = Unit {0}
+SavedOneMore (Some before) after name e =
     (octets : List ℕ) × SpellsAll e octets
     × (after ≡ Some (before ++ record { name = name; octets = octets } ∷ []))
 
 -- what a save did: the engine's checkpoint is in the file of this name, or nothing was saved
-abbrev pub SavesOne : {A E : Type 0} → Result A E → Option (List Saved) → Option (List Saved) →
-    List ℕ
-    → EngineView → Type 0
+abbrev pub SavesOne : {A E : Type 0} (result : Result A E) (before after : Option (List Saved))
+    (name : List ℕ) (e : EngineView) → Type 0
 SavesOne result before after name e =
-    MatchResult result (λ _. SavedMore before after name e) (λ _. after ≡ before)
+    MatchResult result (λ _. SavedOneMore before after name e) (λ _. after ≡ before)
 
 -- whether a file has the user and the group of another one, and only one name
-abbrev pub is_alike : Rights → Rights → Bool
-is_alike old own = old.user == own.user && (old.group == own.group && old.names == 1)
+abbrev pub may_inherit_mode : (replaced own : Rights) → Bool
+may_inherit_mode old own = old.user == own.user && (old.group == own.group && old.names == 1)
 
 -- the mode that a part gets from the file that it replaces, if that file is alike: the bits that
 -- say who may read, write and run it
-abbrev pub kept_mode : Rights → Option Rights → Option ℕ
-kept_mode own None = None
-kept_mode own (Some old) = if is_alike old own then Some (bit_and old.mode 0o777) else None
+abbrev pub inherited_mode : (own : Rights) (replaced : Option Rights) → Option ℕ
+inherited_mode own None = None
+inherited_mode own (Some old) =
+    if may_inherit_mode old own then Some (bit_and old.mode 0o777) else None

@@ -1,7 +1,7 @@
 -- The log of a source, and what a read does to it (meaning).
 use Rattle.std.specs.Prelude.{◌≡◌, ℕ, ◌≤◌, ◌<◌, List, length, take, Option, ◌==◌, ◌&&◌, nat_lt, if◌then◌else◌}
 use Rattle.std.specs.Io.KnownBytes.{Consumes, Keeps, IsAtEnd}
-use Rattle.giop_print.specs.Output.{counted}
+use Rattle.giop_print.specs.Output.{saturating_next}
 
 -- the octets that are left, if they are known, and how many reads, failures and ends there were
 pub record SourceLog : Type 0 where
@@ -10,24 +10,24 @@ pub record SourceLog : Type 0 where
   pub failures : ℕ
   pub ends : ℕ
 
--- a source before the first read; its octets are known if `told` is Some
-abbrev pub unread : Option (List ℕ) → SourceLog
-unread told = record { left = told; reads = 0; failures = 0; ends = 0 }
+-- a source before the first read; its octets are known if the argument is Some
+abbrev pub unread_source : (octets : Option (List ℕ)) → SourceLog
+unread_source told = record { left = told; reads = 0; failures = 0; ends = 0 }
 
 -- a read put `given` octets at the start of `into`; if it gave none and `into` isn't empty, the
 -- count of ends rises and nothing is left
-pub record Gave (before after : SourceLog) (into : List ℕ) (given : ℕ) : Type 0 where
+pub record ReadGave (before after : SourceLog) (into : List ℕ) (given : ℕ) : Type 0 where
   pub within : given ≤ length into
   pub left : Consumes before.left after.left (take given into)
   pub over : given ≡ 0 → 0 < length into → IsAtEnd after.left
-  pub reads : after.reads ≡ counted before.reads
+  pub reads : after.reads ≡ saturating_next before.reads
   pub failures : after.failures ≡ before.failures
-  pub ends : after.ends ≡ (if given == 0 && nat_lt 0 (length into) then counted before.ends else
-      before.ends)
+  pub ends : after.ends ≡ (if given == 0 && nat_lt 0 (length into) then saturating_next before.ends
+      else before.ends)
 
 -- a read failed and gave nothing
 pub record ReadFailed (before after : SourceLog) : Type 0 where
   pub left : Keeps before.left after.left
-  pub reads : after.reads ≡ counted before.reads
-  pub failures : after.failures ≡ counted before.failures
+  pub reads : after.reads ≡ saturating_next before.reads
+  pub failures : after.failures ≡ saturating_next before.failures
   pub ends : after.ends ≡ before.ends

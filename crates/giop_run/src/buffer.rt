@@ -11,11 +11,12 @@ pub(crate) const ROOM: usize = 65_536;
 /// Octets that wait to be written, in the order in which they were added.
 #[derive(Drop)]
 pub(crate) struct Buffer {
+    // How many puts have added octets since octets were last removed. Each of them added at least one. It doesn't stand
+    // beside `kept`: two counts that do are added to as one vector, which takes longer.
+    recent: usize,
     octets: Vec<u8>,
     // How many octets wait. They are the first ones of `octets`.
     kept: usize,
-    // How many puts have added octets since octets were last removed. Each of them added at least one.
-    recent: usize,
     ghost room: { length octets.items ≡ 65536 },
     ghost within: { kept ≤ 65536 },
     ghost few: { recent ≤ kept },
@@ -38,7 +39,7 @@ impl Buffer {
 
     /// How many more octets the buffer has room for.
     #[inline(always)]
-    pub(crate) fn left(&self) -> usize
+    pub(crate) fn room_left(&self) -> usize
         ensures { result + length (buffered self.now) ≡ 65536 }
     {
         ROOM - self.kept
@@ -59,7 +60,7 @@ impl Buffer {
         ensures kept { self.new.kept ≡ self.old.kept + length octets.now }
         ensures recent { self.new.recent ≡ self.old.recent }
     {
-        copy(octets, &mut self.octets[self.kept..]);
+        copy_to_start(octets, &mut self.octets[self.kept..]);
         self.kept += octets.len();
     }
 
@@ -76,7 +77,7 @@ impl Buffer {
     }
 
     /// How many puts were counted since this was last called.
-    pub(crate) fn take_recent(&mut self) -> usize
+    pub(crate) fn take_put_count(&mut self) -> usize
         ensures value { result ≡ self.old.recent }
         ensures octets { buffered self.new ≡ buffered self.old }
         ensures recent { self.new.recent ≡ 0 }
@@ -86,9 +87,9 @@ impl Buffer {
         recent
     }
 
-    /// Removes the first octets, as many as `count` says. `take_recent` must have been called
+    /// Removes the first octets, as many as `count` says. `take_put_count` must have been called
     /// after the last `add_put`.
-    pub(crate) fn remove(&mut self, count: usize)
+    pub(crate) fn remove_first(&mut self, count: usize)
         requires within { count ≤ length (buffered self.old) }
         requires taken { self.old.recent ≡ 0 }
         ensures octets { buffered self.new ≡ drop count (buffered self.old) }
@@ -102,21 +103,21 @@ impl Buffer {
 /// Copies octets to the start of a room. If they are 32 to 128, as in most lines, they are copied as two blocks of the same
 /// size, which may overlap: a copy of a fixed size is a few moves, and a copy of any size is a call.
 #[inline(always)]
-fn copy(octets: &[u8], room: &mut [u8])
+fn copy_to_start(octets: &[u8], room: &mut [u8])
     requires { length octets.now ≤ length room.old }
     ensures size { length room.new ≡ length room.old }
     ensures head { take (length octets.now) room.new ≡ octets.now }
 {
     match octets.len() {
-        32..=64 => copy_ends::<32>(octets, room),
-        65..=128 => copy_ends::<64>(octets, room),
+        32..=64 => copy_first_and_last::<32>(octets, room),
+        65..=128 => copy_first_and_last::<64>(octets, room),
         _ => room[..octets.len()].copy_from_slice(octets),
     }
 }
 
 /// Copies N to 2 N octets to the start of a room: the first N, and then the last N.
 #[inline(always)]
-fn copy_ends<const N: usize>(octets: &[u8], room: &mut [u8])
+fn copy_first_and_last<const N: usize>(octets: &[u8], room: &mut [u8])
     requires fits { length octets.now ≤ length room.old }
     requires within { (N ≤ length octets.now) × (length octets.now ≤ N + N) }
     ensures size { length room.new ≡ length room.old }

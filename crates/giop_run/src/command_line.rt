@@ -19,7 +19,7 @@ const USAGE: u8 = 2;
 const FAILED: u8 = 4;
 
 /// The words of the command line. The first one is the program's name.
-pub fn words<'a>(rt: &HostRuntime) -> Result<Vec<String>, ProgramError<'a>>
+pub fn command_line_words<'a>(rt: &HostRuntime) -> Result<Vec<String>, ProgramError<'a>>
     ensures { IfErr result (λ fault.
         (fault ≡ ProgramError.Words) ⊎ (fault ≡ ProgramError.OutOfMemory)) }
 {
@@ -34,7 +34,7 @@ pub fn words<'a>(rt: &HostRuntime) -> Result<Vec<String>, ProgramError<'a>>
 }
 
 /// Prints why the program of this name failed, and returns its status.
-pub fn failed(rt: &HostRuntime, program: &str, fault: &ProgramError) -> u8
+pub fn print_fault(rt: &HostRuntime, program: &str, fault: &ProgramError) -> u8
     ensures { result ≡ fault_status fault.now }
 {
     let _ = eprintln!(rt; "{program}: {fault}");
@@ -43,7 +43,7 @@ pub fn failed(rt: &HostRuntime, program: &str, fault: &ProgramError) -> u8
 
 /// Prints why the program of this name failed, and returns its status. It also prints why a file can't be read, what a
 /// refused signature file looks like, or where the name of a refused line is declared before.
-pub fn explained(rt: &HostRuntime, program: &str, fault: &ProgramError) -> u8
+pub fn print_fault_explained(rt: &HostRuntime, program: &str, fault: &ProgramError) -> u8
     ensures { result ≡ fault_status fault.now }
 {
     let _ = match fault {
@@ -51,14 +51,14 @@ pub fn explained(rt: &HostRuntime, program: &str, fault: &ProgramError) -> u8
             look: Look::Declared { name, line },
             ..
         } => eprintln!(rt; "{program}: {fault}: {}:{line}", ShownName(name)),
-        _ => eprintln!(rt; "{program}: {fault}{}", fault.words()),
+        _ => eprintln!(rt; "{program}: {fault}{}", fault.explanation()),
     };
     fault.status()
 }
 
 /// Prints why the arguments of the program of this name can't be read, or prints the help that they ask for. Returns the
 /// status.
-pub fn refused(rt: &HostRuntime, program: &str, error: &Error) -> u8
+pub fn print_clap_error(rt: &HostRuntime, program: &str, error: &Error) -> u8
     ensures memory { kind_of error.now ≡ ErrorKind.OutOfMemory → result ≡ 5 }
     ensures ok { (kind_of error.now ≡ ErrorKind.DisplayHelp)
         ⊎ (kind_of error.now ≡ ErrorKind.DisplayVersion) → (result ≡ 0) ⊎ (result ≡ 4) }
@@ -67,7 +67,7 @@ pub fn refused(rt: &HostRuntime, program: &str, error: &Error) -> u8
         → (result ≡ 2) ⊎ (result ≡ 4) }
 {
     if error.kind() == ErrorKind::OutOfMemory {
-        return failed(rt, program, &ProgramError::OutOfMemory);
+        return print_fault(rt, program, &ProgramError::OutOfMemory);
     }
     let printed = if error.use_stderr() {
         rt.eprint(ShownText(error))

@@ -2,12 +2,12 @@
 
 ghost use Rattle.std.specs.Prelude.{◌≡◌, ◌⊎◌, ◌+◌, ◌^◌, ◌≤◌, List, ℕ, [], true, Err, OnOk, IfOk};
 ghost use Rattle.giop_stream.specs.EngineHolds.{Holds};
-ghost use Rattle.giop_run.specs.Running.{HasKept, Ran, Refused, setup_of};
+ghost use Rattle.giop_run.specs.Running.{DidNothing, HasKept, Ran, setup_of};
 ghost use Rattle.giop_run.specs.Console.{exit_status};
 
 use super::fault::{ProgramError, RunFault};
-use super::flush::{Flush, Flushed};
-use super::running::{Ending, Report, run_by};
+use super::flush::{Flush, FlushesOut};
+use super::running::{Ending, Report, run_with_flushes};
 use super::source::Source;
 use giop_stream::{Engine, Totals};
 
@@ -23,7 +23,7 @@ pub fn dump<'a, S: Source, O: Flush>(
         × Ran (setup_of engine.entry ending) result p s
         (S.log source.old) (S.log source.new) (O.log out.old) (O.log out.new) }
     ensures failed { engine.entry.failed ≡ true
-        → Refused result (S.log source.old) (S.log source.new) (O.log out.old) (O.log out.new) }
+        → DidNothing result (S.log source.old) (S.log source.new) (O.log out.old) (O.log out.new) }
     // This holds for every engine, also for one that holds no stream.
     ensures sound { result ≡ Err RunFault.Failed → engine.entry.failed ≡ true }
     ensures reads { (S.log source.new).reads ≤ (S.log source.old).reads + 2 ^ 40 }
@@ -33,7 +33,7 @@ pub fn dump<'a, S: Source, O: Flush>(
     ensures seen { (result ≡ Err RunFault.Read) ⊎ (result ≡ Err RunFault.Turns) →
         O.kept out.new ≡ [] }
 {
-    run_by::<S, O, Flushed>(source, out, engine, ending)
+    run_with_flushes::<S, O, FlushesOut>(source, out, engine, ending)
 }
 
 /// The status that the program ends with: 0, or 1 if a fault was counted, or the status of the failure.

@@ -2,7 +2,7 @@
 
 ghost use Rattle.std.specs.Prelude.{◌≡◌, ◌≢◌};
 ghost use Rattle.std.specs.IoError.{error_kind};
-ghost use Rattle.giop_run.specs.Console.{fault_status, fault_words};
+ghost use Rattle.giop_run.specs.Console.{fault_status, fault_explanation};
 ghost use Rattle.giop_run.specs.Looks.{looks_of};
 
 use super::reason::{Look, Reason};
@@ -137,8 +137,8 @@ impl<'a> ProgramError<'a> {
     }
 
     /// What `giopcap` prints after the fault: why a file can't be read, or what a refused signature file looks like.
-    pub fn words(&self) -> &'static str
-        ensures { result.now ≡ fault_words self.now }
+    pub fn explanation(&self) -> &'static str
+        ensures { result.now ≡ fault_explanation self.now }
     {
         match self {
             ProgramError::Unreadable { why, .. } => why.words(),

@@ -16,20 +16,20 @@ pub trait Flush: Out {
 }
 
 /// What a run does to its out before each read and at the end.
-pub(crate) trait Between<O: Out> {
+pub(crate) trait BetweenReads<O: Out> {
     /// The octets that the out keeps back.
-    ghost left: { O → List ℕ };
+    ghost kept_back: { O → List ℕ };
 
     /// Writes the octets that the out keeps back, if there are any.
     fn flush(out: &mut O) -> Result<(), OutFault>
-        ensures { Flushes result (O.log out.old) (O.log out.new) (left out.new) };
+        ensures { Flushes result (O.log out.old) (O.log out.new) (kept_back out.new) };
 }
 
 /// Does nothing: the out keeps nothing back.
-pub(crate) struct Nothing;
+pub(crate) struct FlushesNothing;
 
-impl<O: Out> Between<O> for Nothing {
-    ghost left = { λ _. [] };
+impl<O: Out> BetweenReads<O> for FlushesNothing {
+    ghost kept_back = { λ _. [] };
 
     fn flush(_out: &mut O) -> Result<(), OutFault> {
         Ok(())
@@ -37,10 +37,10 @@ impl<O: Out> Between<O> for Nothing {
 }
 
 /// Flushes the out.
-pub(crate) struct Flushed;
+pub(crate) struct FlushesOut;
 
-impl<O: Flush> Between<O> for Flushed {
-    ghost left = { O.kept };
+impl<O: Flush> BetweenReads<O> for FlushesOut {
+    ghost kept_back = { O.kept };
 
     fn flush(out: &mut O) -> Result<(), OutFault> {
         out.flush()

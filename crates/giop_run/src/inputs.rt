@@ -3,7 +3,7 @@
 ghost use Rattle.std.specs.Prelude.{◌≡◌, ℕ, List, Option, None, IfOk, IfErr};
 ghost use Rattle.std.specs.IoError.{error_kind};
 ghost use Rattle.std.specs.declared.io.ErrorKind.{ErrorKind};
-ghost use Rattle.giop_run.specs.SourceLog.{unread};
+ghost use Rattle.giop_run.specs.SourceLog.{unread_source};
 
 use super::reading::Reading;
 use super::source::Source;
@@ -30,14 +30,15 @@ pub trait Inputs {
 
     /// Opens a file. Nothing of it has been read.
     fn open(&self, name: &str) -> io::Result<Self::File>
-        ensures ok { IfOk result (λ file. Self.File.log file ≡ unread (held self.now name.now)) }
+        ensures ok { IfOk result
+            (λ file. Self.File.log file ≡ unread_source (held self.now name.now)) }
         ensures read { IfOk result (λ file. (kind : ErrorKind)
             → Self.File.fails file kind → refuses self.now name.now kind) }
         ensures err { IfErr result (λ error. refuses self.now name.now (error_kind error)) };
 
     /// Gives standard input. Nothing of it has been read.
     fn standard_input(&self) -> Self::Standard
-        ensures { Self.Standard.log result ≡ unread (given self.now) };
+        ensures { Self.Standard.log result ≡ unread_source (given self.now) };
 }
 
 /// The files and the standard input of the system. The contracts know neither what they hold nor when they fail.

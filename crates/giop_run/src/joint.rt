@@ -6,10 +6,10 @@ ghost use Rattle.giop_sig.specs.Builtin.{builtin_table};
 ghost use Rattle.giop_sig.specs.FileReading.{text_too_long, IsFirstRefusalUpTo};
 ghost use Rattle.giop_run.specs.Console.{run_fault};
 ghost use Rattle.giop_run.specs.Files.{signatures_most, Declares};
-ghost use Rattle.giop_run.specs.Joint.{AreRead, text_of, CataloguesOf, IsLook, IsRefusal, IsRefused, IsUnreadable, NoCatalogues};
+ghost use Rattle.giop_run.specs.Joint.{AreRead, joint_text, CataloguesOf, IsLookOfRefusal, IsRefusal, IsRefused, IsUnreadable, NoCatalogues};
 
 use super::fault::ProgramError;
-use super::files::{SIGNATURES_MOST, contents};
+use super::files::{SIGNATURES_MOST, read_file_to_one_over};
 use super::inputs::Inputs;
 use super::reason::Look;
 use giop_sig::{Catalogue, SigFault, SigFaultKind};
@@ -18,7 +18,7 @@ use std::alloc::Global;
 
 /// Reads the signature files of these names: all octets of each, or, if it has more than a signature file may have, one
 /// more than that.
-fn signature_texts<'a, R: Inputs + AllocGlobal>(
+fn read_signature_files<'a, R: Inputs + AllocGlobal>(
     rt: &R,
     names: &[&'a str],
 ) -> Result<Vec<SignatureText<'a>>, ProgramError<'a>>
@@ -29,7 +29,7 @@ fn signature_texts<'a, R: Inputs + AllocGlobal>(
 {
     let mut files = Vec::new(rt.alloc());
     for name in names {
-        let text = contents(rt, name, SIGNATURES_MOST)?;
+        let text = read_file_to_one_over(rt, name, SIGNATURES_MOST)?;
         if files.push(SignatureText { name, text }).is_err() {
             return Err(ProgramError::OutOfMemory);
         }
@@ -38,14 +38,14 @@ fn signature_texts<'a, R: Inputs + AllocGlobal>(
 }
 
 /// What the program prints after the refusal of a line in the text of these files together.
-fn look_in<'a>(
+fn look_of_refused_line<'a>(
     first: &SignatureText<'a>,
     others: &[SignatureText<'a>],
     text: &[u8],
     fault: SigFault,
 ) -> Look<'a>
-    requires { text.now ≡ text_of (first.now ∷ others.now) }
-    ensures { IsLook first.now others.now fault result }
+    requires { text.now ≡ joint_text (first.now ∷ others.now) }
+    ensures { IsLookOfRefusal first.now others.now fault result }
 {
     let is_twice = fault.kind == SigFaultKind::Duplicate && !others.is_empty();
     if is_twice && let Some(above) = declared_above(text, fault.line) {
@@ -60,13 +60,13 @@ fn look_in<'a>(
 }
 
 /// The refusal of the text of these files together, as one of a line of a file.
-fn refusal<'a>(
+fn refusal_of_file_line<'a>(
     first: &SignatureText<'a>,
     others: &[SignatureText<'a>],
     text: &[u8],
     fault: SigFault,
 ) -> ProgramError<'a>
-    requires text { text.now ≡ text_of (first.now ∷ others.now) }
+    requires text { text.now ≡ joint_text (first.now ∷ others.now) }
     requires long { signatures_most < length text.now → fault ≡ text_too_long }
     requires refused { length text.now ≤ signatures_most → IsFirstRefusalUpTo 3 text.now fault }
     ensures { (result ≡ ProgramError.OutOfMemory) ⊎ IsRefused (first.now ∷ others.now) result }
@@ -81,7 +81,7 @@ fn refusal<'a>(
             line,
             kind: fault.kind,
         },
-        look: look_in(first, others, text, fault),
+        look: look_of_refused_line(first, others, text, fault),
     }
 }
 
@@ -91,7 +91,7 @@ fn catalogue_of_files<'a>(
     files: &[SignatureText<'a>],
 ) -> Result<Catalogue, ProgramError<'a>>
     ensures builtin { files.now ≡ [] → IfOk result (λ C. C ≡ builtin_table) }
-    ensures ok { files.now ≢ [] → IfOk result (Declares 3 (text_of files.now)) }
+    ensures ok { files.now ≢ [] → IfOk result (Declares 3 (joint_text files.now)) }
     ensures err { IfErr result (λ fault. (fault ≡ ProgramError.OutOfMemory)
         ⊎ IsRefused files.now fault) }
 {
@@ -106,7 +106,7 @@ fn catalogue_of_files<'a>(
     };
     match Catalogue::parse_types(alloc, text.as_slice()) {
         Ok(catalogue) => Ok(catalogue),
-        Err(fault) => Err(refusal(first, others, text.as_slice(), fault)),
+        Err(fault) => Err(refusal_of_file_line(first, others, text.as_slice(), fault)),
     }
 }
 
@@ -121,6 +121,6 @@ pub fn joint_catalogue<'a, R: Inputs + AllocGlobal>(
         (map (λ name. name.now) names.now)) }
     ensures file { IfErr result (λ fault. run_fault fault ≡ None) }
 {
-    let files = signature_texts(rt, names)?;
+    let files = read_signature_files(rt, names)?;
     catalogue_of_files(rt.alloc(), files.as_slice())
 }

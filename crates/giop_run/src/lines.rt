@@ -6,7 +6,7 @@ ghost use Rattle.giop_print.specs.Output.{Took, Failed, Writes};
 
 use super::buffer::{Buffer, ROOM};
 use super::flush::Flush;
-use super::source::one_more;
+use super::source::saturating_add_one;
 use giop_print::{Line, Out, OutFault};
 use std::alloc::{AllocError, Global};
 use std::io::Write;
@@ -23,13 +23,13 @@ pub struct Lines<W: Write + Drop> {
 }
 
 impl<W: Write + Drop> Lines<W> {
-    ghost use Rattle.giop_run.specs.Buffered.{lines_log, lines_kept};
+    ghost use Rattle.giop_run.specs.Buffered.{lines_log, lines_kept_back};
 
     /// Makes an out over this writer that keeps nothing back.
     pub fn new(alloc: Global, writer: W) -> Result<Lines<W>, AllocError>
         ensures log { IfOk result (λ lines. lines_log W.contents lines
             ≡ record { written = W.contents writer; puts = 0; failures = 0 }) }
-        ensures empty { IfOk result (λ lines. lines_kept lines ≡ []) }
+        ensures empty { IfOk result (λ lines. lines_kept_back lines ≡ []) }
     {
         Ok(Lines {
             writer,
@@ -41,50 +41,52 @@ impl<W: Write + Drop> Lines<W> {
 
     /// The writer. It has all that was put, except the octets that are kept back.
     pub fn writer(&self) -> &W
-        ensures { append_known (W.contents result.now) (lines_kept self.now)
+        ensures { append_known (W.contents result.now) (lines_kept_back self.now)
             ≡ (lines_log W.contents self.now).written }
     {
         &self.writer
     }
 
     /// Adds the puts that the buffer has counted to the count of those before them.
-    fn settle(&mut self)
+    fn add_buffered_puts(&mut self)
         ensures log { lines_log W.contents self.new ≡ lines_log W.contents self.old }
-        ensures kept { lines_kept self.new ≡ lines_kept self.old }
+        ensures kept { lines_kept_back self.new ≡ lines_kept_back self.old }
         ensures none { self.new.buffer.recent ≡ 0 }
     {
-        self.puts = self.puts.saturating_add(self.buffer.take_recent() as u64);
+        self.puts = self
+            .puts
+            .saturating_add(self.buffer.take_put_count() as u64);
     }
 
     /// Gives the octets that are kept back to the writer. Those that the writer doesn't take stay.
-    fn hand_on(&mut self) -> Result<(), OutFault>
+    fn write_kept_back(&mut self) -> Result<(), OutFault>
         ensures written { Keeps (lines_log W.contents self.old).written
             (lines_log W.contents self.new).written }
         ensures puts { (lines_log W.contents self.new).puts ≡ (lines_log W.contents self.old).puts }
         ensures fails { self.new.failures ≡ self.old.failures }
-        ensures none { OnOk result (lines_kept self.new ≡ []) }
+        ensures none { OnOk result (lines_kept_back self.new ≡ []) }
         ensures recent { self.new.buffer.recent ≡ 0 }
     {
-        self.settle();
+        self.add_buffered_puts();
         let octets = self.buffer.octets();
-        let taken = hand_over(&mut self.writer, octets);
+        let taken = write_until_failure(&mut self.writer, octets);
         let is_all = taken == octets.len();
-        self.buffer.remove(taken);
+        self.buffer.remove_first(taken);
         if is_all { Ok(()) } else { Err(OutFault) }
     }
 
     /// Puts octets for which there is no room, or an empty slice. First gives the writer what is kept back.
     #[cold]
     #[inline(never)]
-    fn put_behind(&mut self, octets: &[u8]) -> Result<usize, OutFault>
+    fn write_kept_then_put(&mut self, octets: &[u8]) -> Result<usize, OutFault>
         ensures { MatchResult result
             (λ n. Took (lines_log W.contents self.old) (lines_log W.contents self.new) octets.now n)
             (λ _. Failed (lines_log W.contents self.old) (lines_log W.contents self.new)) }
     {
-        self.settle();
-        self.puts = one_more(self.puts);
-        if self.hand_on().is_err() {
-            self.failures = one_more(self.failures);
+        self.add_buffered_puts();
+        self.puts = saturating_add_one(self.puts);
+        if self.write_kept_back().is_err() {
+            self.failures = saturating_add_one(self.failures);
             return Err(OutFault);
         }
         let taken = octets.len().min(ROOM);
@@ -96,7 +98,7 @@ impl<W: Write + Drop> Lines<W> {
     /// room, needs no stack.
     #[cold]
     #[inline(never)]
-    fn put_line_behind(&mut self, text: &[u8]) -> Result<(), OutFault>
+    fn put_unfitting_line(&mut self, text: &[u8]) -> Result<(), OutFault>
         ensures { Writes result (lines_log W.contents self.old) (lines_log W.contents self.new)
             text.now }
     {
@@ -111,9 +113,10 @@ impl<W: Write + Drop> Out for Lines<W> {
 
     #[inline]
     fn put(&mut self, octets: &[u8]) -> Result<usize, OutFault> {
-        if octets.is_empty() || octets.len() > self.buffer.left() {
+        // The slice is empty, or there is no room for it: 0 less 1 wraps to the greatest number.
+        if octets.len().wrapping_sub(1) >= self.buffer.room_left() {
             // An answer that is handed on whole is tested by the caller after the usual put too.
-            let taken = self.put_behind(octets)?;
+            let taken = self.write_kept_then_put(octets)?;
             return Ok(taken);
         }
         self.buffer.add_put(octets);
@@ -124,8 +127,8 @@ impl<W: Write + Drop> Out for Lines<W> {
     #[inline]
     fn put_line(&mut self, line: &mut Line) -> Result<(), OutFault> {
         let text = line.text();
-        if text.len() > self.buffer.left() {
-            return self.put_line_behind(text);
+        if text.len() > self.buffer.room_left() {
+            return self.put_unfitting_line(text);
         }
         self.buffer.add(text);
         Ok(())
@@ -133,13 +136,13 @@ impl<W: Write + Drop> Out for Lines<W> {
 }
 
 impl<W: Write + Drop> Flush for Lines<W> {
-    ghost use Rattle.giop_run.specs.Buffered.{lines_kept};
+    ghost use Rattle.giop_run.specs.Buffered.{lines_kept_back};
 
-    ghost kept = { lines_kept };
+    ghost kept = { lines_kept_back };
 
     fn flush(&mut self) -> Result<(), OutFault> {
-        if self.hand_on().is_err() || self.writer.flush().is_err() {
-            self.failures = one_more(self.failures);
+        if self.write_kept_back().is_err() || self.writer.flush().is_err() {
+            self.failures = saturating_add_one(self.failures);
             return Err(OutFault);
         }
         Ok(())
@@ -147,7 +150,7 @@ impl<W: Write + Drop> Flush for Lines<W> {
 }
 
 /// Gives octets to a writer until the writer has taken all of them, takes none, or fails. Returns how many it took.
-fn hand_over<W: Write>(writer: &mut W, octets: &[u8]) -> usize
+fn write_until_failure<W: Write>(writer: &mut W, octets: &[u8]) -> usize
     ensures within { result ≤ length octets.now }
     ensures written { Appends (W.contents writer.old) (W.contents writer.new)
         (take result octets.now) }

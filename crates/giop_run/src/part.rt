@@ -2,7 +2,7 @@
 //! whole.
 
 ghost use Rattle.std.specs.Prelude.{◌≡◌, ◌≤◌, IfSome};
-ghost use Rattle.giop_run.specs.Saving.{kept_mode as mode_by};
+ghost use Rattle.giop_run.specs.Saving.{inherited_mode as mode_by};
 
 use super::retrying::Retrying;
 use giop_print::Written;
@@ -101,9 +101,9 @@ fn rename_part(
 /// Writes the checkpoint to a part. After that the part gets the rights of the file that it will replace, if it may have
 /// them.
 fn write_part(rt: &HostRuntime, name: &str, part: &File, engine: &Engine) -> io::Result<()> {
-    put_into(part, engine)?;
+    write_checkpoint(part, engine)?;
     let own = Rights::of(&part.metadata()?);
-    if let Some(mode) = kept_mode(own, Rights::of_name(rt, name)) {
+    if let Some(mode) = inherited_mode(own, Rights::of_name(rt, name)) {
         part.set_permissions(Permissions::from_mode(mode))?;
     }
     part.sync_all()
@@ -111,7 +111,7 @@ fn write_part(rt: &HostRuntime, name: &str, part: &File, engine: &Engine) -> io:
 
 /// The mode that a part gets from the file that it replaces. It gets one only if that file has the same user and group and
 /// no second name, so that nobody gets rights over a checkpoint by a file that stood in its place.
-fn kept_mode(part: Rights, replaced: Option<Rights>) -> Option<u32>
+fn inherited_mode(part: Rights, replaced: Option<Rights>) -> Option<u32>
     ensures mode { result ≡ mode_by part replaced }
     ensures rights { IfSome result (λ mode. mode ≤ 0o777) }
 {
@@ -121,7 +121,7 @@ fn kept_mode(part: Rights, replaced: Option<Rights>) -> Option<u32>
 }
 
 /// Writes the checkpoint to a file.
-pub(crate) fn put_into(file: &File, engine: &Engine) -> io::Result<()> {
+pub(crate) fn write_checkpoint(file: &File, engine: &Engine) -> io::Result<()> {
     let mut out = Written::new(Retrying::new(file));
     match engine.save(&mut out) {
         Ok(_) => Ok(()),

@@ -1,10 +1,10 @@
 //! Octets in memory as a source that gives a few of them at each read.
 
 ghost use Rattle.std.specs.Prelude.{◌≡◌, ◌≤◌, MatchResult, IfErr, Ok, Some, length, min, take};
-ghost use Rattle.giop_run.specs.SourceLog.{Gave, ReadFailed};
+ghost use Rattle.giop_run.specs.SourceLog.{ReadGave, ReadFailed};
 
 use super::fault::SourceFault;
-use super::source::{Source, one_more};
+use super::source::{Source, saturating_add_one};
 
 /// A slice that is read from its start, at most `step` octets at each read.
 #[derive(Drop)]
@@ -44,7 +44,7 @@ impl<'a> Source for Piecewise<'a> {
 
     fn read(&mut self, into: &mut [u8]) -> Result<usize, SourceFault>
         ensures read { MatchResult result
-            (λ given. Gave (piecewise_log self.old) (piecewise_log self.new) into.new given)
+            (λ given. ReadGave (piecewise_log self.old) (piecewise_log self.new) into.new given)
             (λ _. ReadFailed (piecewise_log self.old) (piecewise_log self.new)) }
         ensures fault { IfErr result (λ _. ⊥) }
         // The read never fails. It gives as many octets as the rest, the step and the length of `into` allow.
@@ -53,20 +53,20 @@ impl<'a> Source for Piecewise<'a> {
             (length into.old)) }
         ensures kept { piecewise_step self.new ≡ piecewise_step self.old }
     {
-        self.reads = one_more(self.reads);
+        self.reads = saturating_add_one(self.reads);
         let given = self.left.len().min(self.step).min(into.len());
         let (octets, left) = self.left.split_at(given);
-        copy_front(into, octets);
+        copy_to_start(into, octets);
         self.left = left;
         if given == 0 && !into.is_empty() {
-            self.ends = one_more(self.ends);
+            self.ends = saturating_add_one(self.ends);
         }
         Ok(given)
     }
 }
 
 /// Copies the octets to the start of a slice.
-fn copy_front(into: &mut [u8], octets: &[u8])
+fn copy_to_start(into: &mut [u8], octets: &[u8])
     requires { length octets.now ≤ length into.old }
     ensures { take (length octets.now) into.new ≡ octets.now }
 {

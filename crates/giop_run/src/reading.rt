@@ -6,7 +6,7 @@ ghost use Rattle.std.specs.Io.{ReadsAtMost};
 ghost use Rattle.std.specs.Io.KnownBytes.{ReadConsumes};
 
 use super::fault::SourceFault;
-use super::source::{Source, one_more};
+use super::source::{Source, saturating_add_one};
 use std::io;
 use std::io::{ErrorKind, Read};
 
@@ -47,16 +47,16 @@ impl<R: Read> Source for Reading<R> {
     ghost fails = { λ _ _. Unit {0} };
 
     fn read(&mut self, into: &mut [u8]) -> Result<usize, SourceFault> {
-        self.reads = one_more(self.reads);
-        match retried(&mut self.reader, into) {
+        self.reads = saturating_add_one(self.reads);
+        match read_uninterrupted(&mut self.reader, into) {
             Ok(given) => {
                 if given == 0 && !into.is_empty() {
-                    self.ends = one_more(self.ends);
+                    self.ends = saturating_add_one(self.ends);
                 }
                 Ok(given)
             }
             Err(error) => {
-                self.failures = one_more(self.failures);
+                self.failures = saturating_add_one(self.failures);
                 Err(SourceFault { kind: error.kind() })
             }
         }
@@ -64,7 +64,7 @@ impl<R: Read> Source for Reading<R> {
 }
 
 /// Reads once. If the read is interrupted, it is tried again; if every try is interrupted, it fails.
-fn retried<R: Read>(reader: &mut R, into: &mut [u8]) -> io::Result<usize>
+fn read_uninterrupted<R: Read>(reader: &mut R, into: &mut [u8]) -> io::Result<usize>
     ensures within { ReadsAtMost result into.new }
     ensures octets { ReadConsumes (R.remaining reader.old) (R.remaining reader.new)
         result into.new }

@@ -2,9 +2,9 @@
 //! fault (docs/FORMATS.md, The program giopcap).
 
 ghost use Rattle.std.specs.Prelude.{◌≡◌};
-ghost use Rattle.giop_run.specs.Looks.{HasReason, begins, begins_capture, begins_idl, looks_of, look_words, reason_words};
+ghost use Rattle.giop_run.specs.Looks.{HasReason, begins_with, begins_as_capture, begins_as_idl, looks_of, look_words, reason_words};
 
-use giop_tokens::left_of;
+use giop_tokens::octets_left_at_token;
 use std::io::ErrorKind;
 
 /// Why a file can't be read.
@@ -68,11 +68,11 @@ impl<'a> Look<'a> {
     pub fn of(text: &[u8]) -> Look<'a>
         ensures { result ≡ looks_of text.now }
     {
-        if begins_capture(text) {
+        if begins_as_capture(text) {
             return Look::Capture;
         }
-        let before = text.len().saturating_sub(left_of(text));
-        if begins_idl(&text[before..]) {
+        let before = text.len().saturating_sub(octets_left_at_token(text));
+        if begins_as_idl(&text[before..]) {
             Look::Idl
         } else {
             Look::Other
@@ -92,16 +92,16 @@ impl<'a> Look<'a> {
 }
 
 /// Whether a text begins with these octets.
-#[tactic(auto, unfolding(crate::specs::Looks::begins))]
+#[tactic(auto, unfolding(crate::specs::Looks::begins_with))]
 fn begins_with(text: &[u8], octets: &[u8]) -> bool
-    ensures { result ≡ begins octets.now text.now }
+    ensures { result ≡ begins_with octets.now text.now }
 {
     text.starts_with(octets)
 }
 
 /// Whether a text begins as a capture does: as a pcap file of any byte order and unit of time, or as a pcapng file.
-fn begins_capture(text: &[u8]) -> bool
-    ensures { result ≡ begins_capture text.now }
+fn begins_as_capture(text: &[u8]) -> bool
+    ensures { result ≡ begins_as_capture text.now }
 {
     begins_with(text, &[0xa1, 0xb2, 0xc3, 0xd4])
         || begins_with(text, &[0xd4, 0xc3, 0xb2, 0xa1])
@@ -111,8 +111,8 @@ fn begins_capture(text: &[u8]) -> bool
 }
 
 /// Whether a text begins with a word or sign that IDL has there and no signature file has.
-fn begins_idl(text: &[u8]) -> bool
-    ensures { result ≡ begins_idl text.now }
+fn begins_as_idl(text: &[u8]) -> bool
+    ensures { result ≡ begins_as_idl text.now }
 {
     begins_with(text, b"#")
         || begins_with(text, b"/*")

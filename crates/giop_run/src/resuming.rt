@@ -1,15 +1,15 @@
 //! The engine that a run begins with: a new engine, or one that is loaded from a checkpoint file.
 
 ghost use Rattle.std.specs.Prelude.{◌≡◌, ◌≢◌, ◌≤◌, List, ℕ, [], false, None, IfOk, IfErr, IfSome, option_map};
-ghost use Rattle.giop_checkpoint.specs.Refusals.{IsOurs};
+ghost use Rattle.giop_checkpoint.specs.Refusals.{PassesUpToCounts};
 ghost use Rattle.giop_stream.specs.Rules.{most_open};
 ghost use Rattle.giop_stream.specs.Checkpoint.{counts_of, IsRefused, Spells};
-ghost use Rattle.giop_stream.specs.EngineHolds.{AreOf, Holds};
+ghost use Rattle.giop_stream.specs.EngineHolds.{IsRequestTableOf, Holds};
 ghost use Rattle.giop_run.specs.Console.{run_fault};
-ghost use Rattle.giop_run.specs.Files.{NoCheckpoint, GoesOn, checkpoint_most, IsFront};
+ghost use Rattle.giop_run.specs.Files.{NoCheckpoint, HoldsOfResumed, checkpoint_most, IsReadToOneOver};
 
 use super::fault::ProgramError;
-use super::files::contents;
+use super::files::read_file_to_one_over;
 use super::inputs::Inputs;
 use giop_checkpoint::LoadFault;
 use giop_sig::{Catalogue, Requests};
@@ -27,10 +27,11 @@ fn load_checkpoint<'a, 'c>(
     catalogue: &'c Catalogue,
     requests: &'c Requests,
 ) -> Result<Engine<'c>, ProgramError<'a>>
-    requires of { AreOf catalogue.now requests.now }
+    requires of { IsRequestTableOf catalogue.now requests.now }
     ensures again { IfOk result (λ e. (n : ℕ) (p : List ℕ)
         → Spells octets.now catalogue.now requests.now n p → (e.most ≡ n) × Holds e p) }
-    ensures ours { IfOk result (λ e. IsOurs (counts_of catalogue.now requests.now) octets.now) }
+    ensures ours { IfOk result (λ e. PassesUpToCounts
+        (counts_of catalogue.now requests.now) octets.now) }
     ensures err { IfErr result (λ fault. (why : LoadFault)
         × (why ≡ LoadFault.OutOfMemory → fault ≡ ProgramError.OutOfMemory)
         × (why ≢ LoadFault.OutOfMemory → fault ≡ ProgramError.Checkpoint name.entry why)
@@ -53,10 +54,10 @@ pub fn resume<'a, 'c, R: Inputs + AllocGlobal>(
     catalogue: &'c Catalogue,
     requests: &'c Requests,
 ) -> Result<Engine<'c>, ProgramError<'a>>
-    requires of { AreOf catalogue.now requests.now }
+    requires of { IsRequestTableOf catalogue.now requests.now }
     requires range { (1 ≤ most) × (most ≤ most_open) }
     ensures ok { let asked = option_map (λ n. n.now) name.entry in
-        IfOk result (λ e. GoesOn (R.held rt.now) asked most catalogue.now requests.now
+        IfOk result (λ e. HoldsOfResumed (R.held rt.now) asked most catalogue.now requests.now
         (λ n p. (e.most ≡ n) × Holds e p)) }
     ensures err { let asked = option_map (λ n. n.now) name.entry in IfErr result
         (NoCheckpoint (R.held rt.now) (R.refuses rt.now) asked
@@ -72,6 +73,6 @@ pub fn resume<'a, 'c, R: Inputs + AllocGlobal>(
             Err(NewError::OutOfMemory) => Err(ProgramError::OutOfMemory),
         };
     };
-    let octets = contents(rt, name, CHECKPOINT_MOST)?;
+    let octets = read_file_to_one_over(rt, name, CHECKPOINT_MOST)?;
     load_checkpoint(rt.alloc(), name, &octets, catalogue, requests)
 }

@@ -1,16 +1,16 @@
 //! A run: octets from a source go through an engine to an out, up to the stream's end.
 
 ghost use Rattle.std.specs.Prelude.{◌≡◌, ◌≢◌, ◌⊎◌, ◌+◌, ◌^◌, ◌≤◌, Err, true, false, List, [], ℕ, MatchResult, IfOk, OnOk, IfErr};
-ghost use Rattle.giop_print.specs.Output.{counted};
+ghost use Rattle.giop_print.specs.Output.{saturating_next};
 ghost use Rattle.giop_cdr.specs.Numbers.{AreOctets};
 ghost use Rattle.giop_stream.specs.EngineHolds.{Holds, rules_of};
-ghost use Rattle.giop_run.specs.SourceLog.{Gave, ReadFailed};
+ghost use Rattle.giop_run.specs.SourceLog.{ReadGave, ReadFailed};
 ghost use Rattle.giop_run.specs.Flushing.{Flushes};
-ghost use Rattle.giop_run.specs.Running.{HasKept, Ran, Refused, setup_of};
-ghost use Rattle.giop_run.specs.RunSteps.{Fed, FedAll, HasReadAndFed, IsOfWriting, Completed, Closed};
+ghost use Rattle.giop_run.specs.Running.{DidNothing, HasKept, Ran, setup_of};
+ghost use Rattle.giop_run.specs.RunSteps.{HasFedPiece, HasFedSource, HasReadAndFed, IsOfWriting, FinishedStream, HasEndedRun};
 
 use super::fault::{RunFault, SourceFault};
-use super::flush::{Between, Nothing};
+use super::flush::{BetweenReads, FlushesNothing};
 use super::source::Source;
 use giop_print::Out;
 use giop_stream::{Engine, Status, Stop, Totals};
@@ -55,18 +55,18 @@ pub fn run<'a, S: Source, O: Out>(
         × Ran (setup_of engine.entry ending) result p s
         (S.log source.old) (S.log source.new) (O.log out.old) (O.log out.new) }
     ensures failed { engine.entry.failed ≡ true
-        → Refused result (S.log source.old) (S.log source.new) (O.log out.old) (O.log out.new) }
+        → DidNothing result (S.log source.old) (S.log source.new) (O.log out.old) (O.log out.new) }
     // This holds for every engine, also for one that holds no stream.
     ensures sound { result ≡ Err RunFault.Failed → engine.entry.failed ≡ true }
     ensures reads { (S.log source.new).reads ≤ (S.log source.old).reads + 2 ^ 40 }
     ensures kept { IfOk result (λ report. HasKept ending report.kept) }
 {
-    run_by::<S, O, Nothing>(source, out, engine, ending)
+    run_with_flushes::<S, O, FlushesNothing>(source, out, engine, ending)
 }
 
 /// Runs an engine, and lets `F` flush the out before each read and at the end, so that the lines of a live stream can be
 /// seen at once. If a flush fails, the run fails as after a failed put.
-pub(crate) fn run_by<'a, S: Source, O: Out, F: Between<O>>(
+pub(crate) fn run_with_flushes<'a, S: Source, O: Out, F: BetweenReads<O>>(
     source: &mut S,
     out: &mut O,
     engine: Engine<'a>,
@@ -76,29 +76,29 @@ pub(crate) fn run_by<'a, S: Source, O: Out, F: Between<O>>(
         × Ran (setup_of engine.entry ending) result p s
         (S.log source.old) (S.log source.new) (O.log out.old) (O.log out.new) }
     ensures failed { engine.entry.failed ≡ true
-        → Refused result (S.log source.old) (S.log source.new) (O.log out.old) (O.log out.new) }
+        → DidNothing result (S.log source.old) (S.log source.new) (O.log out.old) (O.log out.new) }
     // This holds for every engine, also for one that holds no stream.
     ensures sound { result ≡ Err RunFault.Failed → engine.entry.failed ≡ true }
     ensures reads { (S.log source.new).reads ≤ (S.log source.old).reads + 2 ^ 40 }
     ensures kept { IfOk result (λ report. HasKept ending report.kept) }
-    ensures flushed { OnOk result (F.left out.new ≡ []) }
+    ensures flushed { OnOk result (F.kept_back out.new ≡ []) }
     // If a read failed, or there were too many reads, the out keeps nothing back.
     ensures seen { (result ≡ Err RunFault.Read) ⊎ (result ≡ Err RunFault.Turns) →
-        F.left out.new ≡ [] }
+        F.kept_back out.new ≡ [] }
 {
     let mut engine = engine;
-    feed_all::<S, O, F>(source, out, &mut engine)?;
-    close::<O, F>(engine, out, ending)
+    feed_whole_source::<S, O, F>(source, out, &mut engine)?;
+    end_run::<O, F>(engine, out, ending)
 }
 
 /// Feeds all that the source gives, up to its end or to a stream fault. If the stream has a fault already, feeds nothing.
-fn feed_all<S: Source, O: Out, F: Between<O>>(
+fn feed_whole_source<S: Source, O: Out, F: BetweenReads<O>>(
     source: &mut S,
     out: &mut O,
     engine: &mut Engine,
 ) -> Result<(), RunFault>
     ensures fed { (p : List ℕ) → Holds engine.old p → (s : List ℕ)
-        × FedAll (rules_of engine.old) result p s engine.new
+        × HasFedSource (rules_of engine.old) result p s engine.new
         (S.log source.old) (S.log source.new) (O.log out.old) (O.log out.new) }
     ensures failed { engine.old.failed ≡ true → (result ≡ Err RunFault.Failed)
         × (S.log source.new ≡ S.log source.old) × (O.log out.new ≡ O.log out.old) }
@@ -109,7 +109,7 @@ fn feed_all<S: Source, O: Out, F: Between<O>>(
     ensures sound { result ≡ Err RunFault.Failed → engine.old.failed ≡ true }
     ensures reads { (S.log source.new).reads ≤ (S.log source.old).reads + 2 ^ 40 }
     ensures seen { (result ≡ Err RunFault.Read) ⊎ (result ≡ Err RunFault.Turns) →
-        F.left out.new ≡ [] }
+        F.kept_back out.new ≡ [] }
 {
     if !feed(engine, &[], out)? {
         return Ok(());
@@ -126,8 +126,8 @@ fn feed_all<S: Source, O: Out, F: Between<O>>(
 }
 
 /// Flushes the out.
-fn flush<O: Out, F: Between<O>>(out: &mut O) -> Result<(), RunFault>
-    ensures flushed { Flushes result (O.log out.old) (O.log out.new) (F.left out.new) }
+fn flush<O: Out, F: BetweenReads<O>>(out: &mut O) -> Result<(), RunFault>
+    ensures flushed { Flushes result (O.log out.old) (O.log out.new) (F.kept_back out.new) }
     ensures cause { IfErr result (λ fault. fault ≡ RunFault.Out) }
 {
     match F::flush(out) {
@@ -151,7 +151,7 @@ fn read_and_feed<S: Source, O: Out>(
         × (engine.new.request_table ≡ engine.old.request_table)
         × (engine.new.most ≡ engine.old.most) }
     ensures sound { result ≡ Err RunFault.Failed → engine.old.failed ≡ true }
-    ensures reads { (S.log source.new).reads ≡ counted (S.log source.old).reads }
+    ensures reads { (S.log source.new).reads ≡ saturating_next (S.log source.old).reads }
     ensures unread { result ≡ Err RunFault.Read → out.new ≡ out.old }
     ensures ends { result ≢ Err RunFault.Turns }
 {
@@ -168,7 +168,7 @@ fn read_and_feed<S: Source, O: Out>(
 /// Reads once. Its contract says that the buffer has octets, which follows from the buffer's type.
 fn read<S: Source>(source: &mut S, buffer: &mut [u8]) -> Result<usize, SourceFault>
     ensures read { MatchResult result
-        (λ given. Gave (S.log source.old) (S.log source.new) buffer.new given)
+        (λ given. ReadGave (S.log source.old) (S.log source.new) buffer.new given)
         (λ _. ReadFailed (S.log source.old) (S.log source.new)) }
     ensures octets { AreOctets buffer.new }
 {
@@ -178,7 +178,8 @@ fn read<S: Source>(source: &mut S, buffer: &mut [u8]) -> Result<usize, SourceFau
 /// Feeds a piece. Returns whether the stream goes on.
 fn feed<O: Out>(engine: &mut Engine, piece: &[u8], out: &mut O) -> Result<bool, RunFault>
     ensures fed { (p : List ℕ) → Holds engine.old p
-        → Fed (rules_of engine.old) result p piece.now engine.new (O.log out.old) (O.log out.new) }
+        → HasFedPiece (rules_of engine.old) result p piece.now engine.new (O.log out.old)
+        (O.log out.new) }
     ensures failed { engine.old.failed ≡ true
         → (result ≡ Err RunFault.Failed) × (O.log out.new ≡ O.log out.old) }
     ensures leaves { OnOk result (engine.new.failed ≡ false) }
@@ -197,48 +198,52 @@ fn feed<O: Out>(engine: &mut Engine, piece: &[u8], out: &mut O) -> Result<bool, 
 }
 
 /// Ends a run as its `Ending` says.
-fn close<'a, O: Out, F: Between<O>>(
+fn end_run<'a, O: Out, F: BetweenReads<O>>(
     engine: Engine<'a>,
     out: &mut O,
     ending: Ending,
 ) -> Result<Report<'a>, RunFault>
     ensures closed { (p : List ℕ) → Holds engine.entry p
-        → Closed (setup_of engine.entry ending) result p (O.log out.old) (O.log out.new) }
+        → HasEndedRun (setup_of engine.entry ending) result p (O.log out.old) (O.log out.new) }
     ensures sound { result ≡ Err RunFault.Failed → engine.entry.failed ≡ true }
     ensures kept { IfOk result (λ report. HasKept ending report.kept) }
-    ensures flushed { OnOk result (F.left out.new ≡ []) }
+    ensures flushed { OnOk result (F.kept_back out.new ≡ []) }
     ensures causes { IfErr result IsOfWriting }
 {
     match ending {
-        Ending::Finish => finish_report::<O, F>(engine, out),
-        Ending::Keep => keep::<O, F>(engine, out),
+        Ending::Finish => finish_and_flush::<O, F>(engine, out),
+        Ending::Keep => flush_and_keep_engine::<O, F>(engine, out),
     }
 }
 
 /// Ends the stream, flushes the out, and returns the totals.
-fn finish_report<'a, O: Out, F: Between<O>>(
+fn finish_and_flush<'a, O: Out, F: BetweenReads<O>>(
     engine: Engine<'a>,
     out: &mut O,
 ) -> Result<Report<'a>, RunFault>
     ensures closed { (p : List ℕ) → Holds engine.entry p
-        → Closed (setup_of engine.entry Ending.Finish) result p (O.log out.old) (O.log out.new) }
+        → HasEndedRun (setup_of engine.entry Ending.Finish) result p (O.log out.old)
+        (O.log out.new) }
     ensures sound { result ≡ Err RunFault.Failed → engine.entry.failed ≡ true }
     ensures kept { IfOk result (λ report. HasKept Ending.Finish report.kept) }
-    ensures flushed { OnOk result (F.left out.new ≡ []) }
+    ensures flushed { OnOk result (F.kept_back out.new ≡ []) }
     ensures causes { IfErr result IsOfWriting }
 {
-    let totals = finish(engine, out)?;
+    let totals = finish_stream(engine, out)?;
     flush::<O, F>(out)?;
     Ok(Report { totals, kept: None })
 }
 
 /// Flushes the out, and returns the engine.
-fn keep<'a, O: Out, F: Between<O>>(engine: Engine<'a>, out: &mut O) -> Result<Report<'a>, RunFault>
+fn flush_and_keep_engine<'a, O: Out, F: BetweenReads<O>>(
+    engine: Engine<'a>,
+    out: &mut O,
+) -> Result<Report<'a>, RunFault>
     ensures closed { (p : List ℕ) → Holds engine.entry p
-        → Closed (setup_of engine.entry Ending.Keep) result p (O.log out.old) (O.log out.new) }
+        → HasEndedRun (setup_of engine.entry Ending.Keep) result p (O.log out.old) (O.log out.new) }
     ensures sound { result ≡ Err RunFault.Failed → engine.entry.failed ≡ true }
     ensures kept { IfOk result (λ report. HasKept Ending.Keep report.kept) }
-    ensures flushed { OnOk result (F.left out.new ≡ []) }
+    ensures flushed { OnOk result (F.kept_back out.new ≡ []) }
     ensures causes { IfErr result IsOfWriting }
 {
     flush::<O, F>(out)?;
@@ -250,9 +255,9 @@ fn keep<'a, O: Out, F: Between<O>>(engine: Engine<'a>, out: &mut O) -> Result<Re
 }
 
 /// Ends the stream.
-fn finish<O: Out>(engine: Engine, out: &mut O) -> Result<Totals, RunFault>
+fn finish_stream<O: Out>(engine: Engine, out: &mut O) -> Result<Totals, RunFault>
     ensures finished { (p : List ℕ) → Holds engine.entry p
-        → Completed (rules_of engine.entry) result p (O.log out.old) (O.log out.new) }
+        → FinishedStream (rules_of engine.entry) result p (O.log out.old) (O.log out.new) }
     ensures failed { engine.entry.failed ≡ true
         → (result ≡ Err RunFault.Failed) × (O.log out.new ≡ O.log out.old) }
     ensures sound { result ≡ Err RunFault.Failed → engine.entry.failed ≡ true }

@@ -3,7 +3,7 @@
 ghost use Rattle.std.specs.Prelude.{List, Option, None};
 ghost use Rattle.giop_run.specs.Saving.{Saved, SavesOne};
 
-use super::part::{PRIVATE, put_into, replace_file};
+use super::part::{PRIVATE, replace_file, write_checkpoint};
 use giop_stream::Engine;
 use std::fs::{File, Metadata, OpenOptions};
 use std::io::ErrorKind;
@@ -94,7 +94,9 @@ impl Saves for Disk<'_> {
         match fs::metadata(self.rt, name) {
             Ok(found) if self.is_in_use(&found) => Err(io::Error::from(ErrorKind::InvalidInput)),
             // A device or a pipe holds no old octets, and another file can't replace it.
-            Ok(found) if !found.is_file() => put_into(&open_in_place(self.rt, name)?, engine),
+            Ok(found) if !found.is_file() => {
+                write_checkpoint(&open_in_place(self.rt, name)?, engine)
+            }
             _ => replace_file(self.rt, name, engine),
         }
     }

@@ -4,7 +4,7 @@
 ghost use Rattle.std.specs.Prelude.{◌≡◌, ◌<◌, Some, option_map, IfOk, map, string_bytes, encode_utf8};
 ghost use Rattle.std.specs.Fmt.{WritesOnOk, IsPlainFormatter, HasWritten};
 ghost use Rattle.giop_print.specs.Text.{hex_digit};
-ghost use Rattle.giop_run.specs.CommandLine.{mark, shown, shown_marked, shown_octet, shown_marked_octet};
+ghost use Rattle.giop_run.specs.CommandLine.{with_stand_ins, escaped, escaped_with_stand_ins, escaped_octet, escaped_octet_or_stand_in};
 
 use std::alloc::{AllocError, Global};
 use std::fmt;
@@ -19,11 +19,11 @@ const STAND_IN: u8 = 0;
 pub struct ShownName<'a>(pub &'a str);
 
 impl Display for ShownName<'_> {
-    ghost output = { λ name. Some (shown name.0.now) };
+    ghost output = { λ name. Some (escaped name.0.now) };
 
     fn fmt<W: Write>(&self, f: &mut Formatter<W>) -> fmt::Result {
         for octet in self.0.as_bytes() {
-            put_shown(f, *octet)?;
+            put_escaped(f, *octet)?;
         }
         Ok(())
     }
@@ -31,31 +31,31 @@ impl Display for ShownName<'_> {
 
 /// The words for `clap`, with the stand-in for each line feed. So in a text of `clap` about the words, the line feeds of
 /// the words differ from those of `clap`.
-pub fn marked(alloc: Global, words: &[String]) -> Result<Vec<String>, AllocError>
+pub fn words_with_stand_ins(alloc: Global, words: &[String]) -> Result<Vec<String>, AllocError>
     ensures { IfOk result (λ marked. map string_bytes marked.items
-        ≡ map (λ word. mark (string_bytes word)) words.now) }
+        ≡ map (λ word. with_stand_ins (string_bytes word)) words.now) }
 {
     let mut marked = Vec::new(alloc);
     for word in words {
-        marked.push(marked_word(alloc, word)?)?;
+        marked.push(with_stand_ins(alloc, word)?)?;
     }
     Ok(marked)
 }
 
 /// A word with the stand-in for each of its line feeds.
-fn marked_word(alloc: Global, word: &str) -> Result<String, AllocError>
-    ensures { IfOk result (λ marked. string_bytes marked ≡ mark word.now) }
+fn with_stand_ins(alloc: Global, word: &str) -> Result<String, AllocError>
+    ensures { IfOk result (λ marked. string_bytes marked ≡ with_stand_ins word.now) }
 {
     let mut marked = String::new(alloc);
     for letter in word.chars() {
-        marked.push(marked_letter(letter))?;
+        marked.push(letter_or_stand_in(letter))?;
     }
     Ok(marked)
 }
 
 /// A letter of a word, or the stand-in if the letter is a line feed.
-fn marked_letter(letter: char) -> char
-    ensures { encode_utf8 result ≡ mark (encode_utf8 letter) }
+fn letter_or_stand_in(letter: char) -> char
+    ensures { encode_utf8 result ≡ with_stand_ins (encode_utf8 letter) }
 {
     if letter == '\n' {
         char::from(STAND_IN)
@@ -64,12 +64,12 @@ fn marked_letter(letter: char) -> char
     }
 }
 
-/// A text that `clap` gives about marked words, to be shown.
+/// A text that `clap` gives about words with stand-ins, to be shown.
 #[derive(Drop)]
 pub(crate) struct ShownText<'a, D: Display>(pub(crate) &'a D);
 
 impl<D: Display> Display for ShownText<'_, D> {
-    ghost output = { λ text. option_map shown_marked (D.output text.0.now) };
+    ghost output = { λ text. option_map escaped_with_stand_ins (D.output text.0.now) };
 
     fn fmt<W: Write>(&self, f: &mut Formatter<W>) -> fmt::Result {
         let mut escaping = Escaping(f);
@@ -80,7 +80,7 @@ impl<D: Display> Display for ShownText<'_, D> {
     }
 }
 
-/// Writes a text about marked words. A line feed in it isn't a word's, and stays.
+/// Writes a text about words with stand-ins. A line feed in it isn't a word's, and stays.
 #[derive(Drop)]
 struct Escaping<'f, W: Write>(&'f mut Formatter<W>);
 
@@ -95,31 +95,31 @@ impl<'f, W: Write> Escaping<'f, W> {
 
 impl<W: Write> Write for Escaping<'_, W> {
     ghost write_str_gives = { λ old text new. (IsPlainFormatter old.0.now
-        → HasWritten W.write_str_gives old.0.now (shown_marked text) new.0.now)
+        → HasWritten W.write_str_gives old.0.now (escaped_with_stand_ins text) new.0.now)
         × (new.0.ghost_name ≡ old.0.ghost_name) };
 
     fn write_str(&mut self, text: &str) -> fmt::Result {
         for octet in text.as_bytes() {
-            put_marked(self.0, *octet)?;
+            put_escaped_or_stand_in(self.0, *octet)?;
         }
         Ok(())
     }
 }
 
-/// Writes an octet of a text about marked words.
-fn put_marked<W: Write>(f: &mut Formatter<W>, octet: u8) -> fmt::Result
-    ensures { WritesOnOk W.write_str_gives f.old result (shown_marked_octet octet) f.new }
+/// Writes an octet of a text about words with stand-ins.
+fn put_escaped_or_stand_in<W: Write>(f: &mut Formatter<W>, octet: u8) -> fmt::Result
+    ensures { WritesOnOk W.write_str_gives f.old result (escaped_octet_or_stand_in octet) f.new }
 {
     match octet {
         b'\n' => f.write_char('\n'),
-        STAND_IN => put_shown(f, b'\n'),
-        octet => put_shown(f, octet),
+        STAND_IN => put_escaped(f, b'\n'),
+        octet => put_escaped(f, octet),
     }
 }
 
 /// Writes an octet in the way that it is shown.
-fn put_shown<W: Write>(f: &mut Formatter<W>, octet: u8) -> fmt::Result
-    ensures { WritesOnOk W.write_str_gives f.old result (shown_octet octet) f.new }
+fn put_escaped<W: Write>(f: &mut Formatter<W>, octet: u8) -> fmt::Result
+    ensures { WritesOnOk W.write_str_gives f.old result (escaped_octet octet) f.new }
 {
     if (0x20..=0x7e).contains(&octet) {
         return f.write_char(char::from(octet));

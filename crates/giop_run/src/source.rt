@@ -2,8 +2,8 @@
 
 ghost use Rattle.std.specs.Prelude.{◌≡◌, MatchResult, IfErr};
 ghost use Rattle.std.specs.declared.io.ErrorKind.{ErrorKind};
-ghost use Rattle.giop_print.specs.Output.{counted};
-ghost use Rattle.giop_run.specs.SourceLog.{SourceLog, Gave, ReadFailed};
+ghost use Rattle.giop_print.specs.Output.{saturating_next};
+ghost use Rattle.giop_run.specs.SourceLog.{SourceLog, ReadGave, ReadFailed};
 
 use super::fault::SourceFault;
 
@@ -19,16 +19,16 @@ pub trait Source {
     /// source is at its end.
     fn read(&mut self, into: &mut [u8]) -> Result<usize, SourceFault>
         ensures read { MatchResult result
-            (λ given. Gave (log self.old) (log self.new) into.new given)
+            (λ given. ReadGave (log self.old) (log self.new) into.new given)
             (λ _. ReadFailed (log self.old) (log self.new)) }
         ensures fault { IfErr result (λ fault. fails self.old fault.kind) }
         ensures fewer { (kind : ErrorKind) → fails self.new kind → fails self.old kind };
 }
 
 /// One more than a count, or the greatest number of 64 bits if the count is that.
-#[tactic(auto, unfolding(giop_print::specs::Output::counted))]
-pub(crate) fn one_more(count: u64) -> u64
-    ensures { result ≡ counted count }
+#[tactic(auto, unfolding(giop_print::specs::Output::saturating_next))]
+pub(crate) fn saturating_add_one(count: u64) -> u64
+    ensures { result ≡ saturating_next count }
 {
     count.saturating_add(1)
 }

@@ -1,20 +1,17 @@
 //! What the tests have in common: the types by which streams are read, and a CloseConnection with its lines.
 
-ghost use Rattle.std.specs.Prelude.{◌≡◌, false, IfOk};
-ghost use Rattle.giop_stream.specs.EngineHolds.{AreOf};
+ghost use Rattle.giop_stream.specs.EngineHolds.{IsRequestTableOf};
 
 use giop_sig::{Catalogue, Requests};
 use giop_stream::Engine;
 use std::alloc::Global;
-use std::test::Fail;
 
-/// The built-in types, and an empty request list.
-pub fn built_in(alloc: Global) -> Result<(Catalogue, Requests), Fail>
-    ensures { IfOk result (λ known. AreOf known.0 known.1) }
-{
-    let catalogue = Catalogue::builtin(alloc)?;
-    let requests = Requests::parse(alloc, b"", &catalogue)?;
-    Ok((catalogue, requests))
+/// The built-in types. A function that holds a catalogue or an engine itself, and not in a box, takes seconds to prove.
+pub fn built_in(alloc: Global) -> Option<Box<Catalogue>> {
+    match Catalogue::builtin(alloc) {
+        Ok(catalogue) => Box::new(alloc, catalogue).ok(),
+        Err(_) => None,
+    }
 }
 
 /// A new engine, for at most 16 open messages.
@@ -22,12 +19,13 @@ pub fn engine<'a>(
     alloc: Global,
     catalogue: &'a Catalogue,
     requests: &'a Requests,
-) -> Result<Engine<'a>, Fail>
-    requires of { AreOf catalogue.now requests.now }
-    ensures sound { IfOk result (λ e. e.failed ≡ false) }
+) -> Option<Box<Engine<'a>>>
+    requires { IsRequestTableOf catalogue.now requests.now }
 {
-    let engine = Engine::new(alloc, catalogue, requests, 16)?;
-    Ok(engine)
+    match Engine::new(alloc, catalogue, requests, 16) {
+        Ok(engine) => Box::new(alloc, engine).ok(),
+        Err(_) => None,
+    }
 }
 
 /// A CloseConnection alone.

@@ -2,7 +2,7 @@
 
 use super::fakes::Reader;
 use crate::expecting::expect_at;
-use giop_run::{Reading, front};
+use giop_run::{Reading, read_to_one_over};
 use std::alloc::Global;
 use std::cell::Cell;
 use std::io::ErrorKind;
@@ -11,7 +11,7 @@ use std::io::ErrorKind;
 /// then, if it doesn't fail, after how many reads.
 type Row = (u64, usize, usize, Option<&'static str>, usize);
 
-const ROWS: [Row; 12] = [
+static ROWS: [Row; 12] = [
     (0, 0, 100_000, Some("a"), 1),
     (3, 0, 100_000, Some("abcd"), 4),
     (5, 0, 100_000, Some("abcdef"), 6),
@@ -35,7 +35,7 @@ fn is_row(alloc: Global, row: &Row) -> bool {
         interrupts: row.1,
         fails_at: row.2,
     };
-    let is_read = match front(alloc, &mut Reading::new(reader), row.0) {
+    let is_read = match read_to_one_over(alloc, &mut Reading::new(reader), row.0) {
         Ok(octets) => Some(octets.as_slice()) == row.3.map(str::as_bytes),
         Err(error) => row.3.is_none() && (row.2 > 99) == (error.kind() != ErrorKind::Other),
     };

@@ -15,10 +15,10 @@ use Rattle.indexmap.specs.IndexMap.{insert_entry}
 use Rattle.giop_sig.specs.declared.types.TypeId.{TypeId}
 use Rattle.giop_sig.specs.declared.catalogue.Signature.{Signature}
 use Rattle.giop_sig.specs.Table as nodes
-use Rattle.giop_sig.specs.Table.{Node, Case, TakesOctet, node_in, Operation, Exception, Identity, Table, keyed_number, exception_in, members_at, identified_in, identity_at, no_operation, no_exception, no_identity, with_type, with_operation, with_exception, with_identity}
+use Rattle.giop_sig.specs.Table.{Node, Case, TakesOctet, node_in, Operation, Exception, Identity, Table, operation_number_of_key, exception_in, exception_members_at, identified_in, identity_type_at, no_operation, no_exception, no_identity, with_type, with_operation, with_exception, with_identity}
 use Rattle.giop_sig.specs.AnyTypes.{first_types}
-use Rattle.giop_sig.specs.HeaderTypes.{ArePlain, IsAddable, IsPlain, KnowsAnys, IsOperation, IsException, IsIdentity, AreDistinct, TableOf}
-use Rattle.giop_sig.specs.Trees.{AreFormed, AreWide, IsWide, IsWidePart}
+use Rattle.giop_sig.specs.HeaderTypes.{AreBeforeVersion3, IsAddable, IsBeforeVersion3, KnowsAnys, IsOperation, IsException, IsIdentity, AreDistinct, TableOf}
+use Rattle.giop_sig.specs.Trees.{AreFormed, AllHaveParameterTypes, HasParameterTypes, IsParameterType}
 use Rattle.giop_sig.proofs.Kept.{depth_stays}
 use Rattle.giop_sig.specs.Entries.{operation_view, exception_view, identity_view}
 
@@ -37,8 +37,8 @@ identified_stays : (types : List Node) (n : Node) (e : Identity) → IsIdentity 
 identified_stays types n e is = search (arith, length-append)
 
 -- the parts of a TypeCode keep their nodes and depths
-wide_part_stays : (types : List Node) (n : Node) (i : ℕ) → AreFormed types → IsWidePart types i
-    → IsWidePart (types ++ n ∷ []) i
+wide_part_stays : (types : List Node) (n : Node) (i : ℕ) → AreFormed types → IsParameterType types i
+    → IsParameterType (types ++ n ∷ []) i
 wide_part_stays types n i are is =
     let same = get_or_append_left types (n ∷ []) (nodes.prim Octet) i is.known in
     record {
@@ -48,22 +48,23 @@ wide_part_stays types n i are is =
     }
 
 wide_cases_stay : (types : List Node) (n : Node) (cs : List Case) → AreFormed types
-    → AllByRecursion (λ c. IsWidePart types c.part.type) cs
-    → AllByRecursion (λ c. IsWidePart (types ++ n ∷ []) c.part.type) cs
+    → AllByRecursion (λ c. IsParameterType types c.part.type) cs
+    → AllByRecursion (λ c. IsParameterType (types ++ n ∷ []) c.part.type) cs
 wide_cases_stay types n [] are all = tt
 wide_cases_stay types n (c ∷ cs) are all =
     (wide_part_stays types n c.part.type are all.0, wide_cases_stay types n cs are all.1)
 
-wide_stays : (types : List Node) (n node : Node) → AreFormed types → IsWide types node
-    → IsWide (types ++ n ∷ []) node
+wide_stays : (types : List Node) (n node : Node) → AreFormed types → HasParameterTypes types node
+    → HasParameterTypes (types ++ n ∷ []) node
 wide_stays types n (nodes.typecode wide kind cases) are is =
-    All-from_recursion (λ (c : Case). IsWidePart (types ++ n ∷ []) c.part.type) cases
+    All-from_recursion (λ (c : Case). IsParameterType (types ++ n ∷ []) c.part.type) cases
     (wide_cases_stay types n cases are
-    (recursion_from_All (λ (c : Case). IsWidePart types c.part.type) cases is))
+    (recursion_from_All (λ (c : Case). IsParameterType types c.part.type) cases is))
 wide_stays types n _ are is = tt
 
 -- a node that a declaration may add has no parts that need much room
-addable_wide : (version : ℕ) (types : List Node) (n : Node) → IsAddable version n → IsWide types n
+addable_wide : (version : ℕ) (types : List Node) (n : Node) → IsAddable version n
+    → HasParameterTypes types n
 addable_wide version types (nodes.announced index) addable = tt
 addable_wide version types (nodes.recursive bound element) addable = tt
 addable_wide version types (nodes.any code) addable = tt
@@ -71,34 +72,37 @@ addable_wide version types (nodes.typecode wide kind cases) addable = absurd add
 addable_wide version types _ addable = tt
 
 -- a node that a declaration may add isn't plain in version 3 alone
-addable_plain : (version : ℕ) (n : Node) → (version ≡ 3 → ⊥) → IsAddable version n → IsPlain n
+addable_plain : (version : ℕ) (n : Node) → (version ≡ 3 → ⊥) → IsAddable version n
+    → IsBeforeVersion3 n
 addable_plain version (nodes.announced index) other addable = absurd (other addable)
 addable_plain version (nodes.recursive bound element) other addable = absurd (other addable)
 addable_plain version _ other addable = addable
 
-wide_added : (types : List Node) (n : Node) (i : ℕ) → AreFormed types → AreWide types
-    → IsWide (types ++ n ∷ []) n → i < length (types ++ n ∷ []) → (i < length types) ⊎
+wide_added : (types : List Node) (n : Node) (i : ℕ) → AreFormed types → AllHaveParameterTypes types
+    → HasParameterTypes (types ++ n ∷ []) n → i < length (types ++ n ∷ []) → (i < length types) ⊎
     (length types ≤ i)
-    → IsWide (types ++ n ∷ []) (node_in (types ++ n ∷ []) i)
+    → HasParameterTypes (types ++ n ∷ []) (node_in (types ++ n ∷ []) i)
 wide_added types n i are wide last lt (inl below) =
-    subst (IsWide (types ++ n ∷ []))
+    subst (HasParameterTypes (types ++ n ∷ []))
     (sym (get_or_append_left types (n ∷ []) (nodes.prim Octet) i below))
     (wide_stays types n (node_in types i) are (wide i below))
 wide_added types n i are wide last lt (inr above) =
     let at : length types ≡ i = omega (arith, length-append types (n ∷ [])) in
-    subst (λ k. IsWide (types ++ n ∷ []) (node_in (types ++ n ∷ []) k)) at
-    (subst (IsWide (types ++ n ∷ [])) (sym (get_or-append_seam types n [] (nodes.prim Octet)))
+    subst (λ k. HasParameterTypes (types ++ n ∷ []) (node_in (types ++ n ∷ []) k)) at
+    (subst (HasParameterTypes (types ++ n ∷ []))
+    (sym (get_or-append_seam types n [] (nodes.prim Octet)))
     last)
 
-plain_added : (types : List Node) (n : Node) (i : ℕ) → ArePlain types → IsPlain n
+plain_added : (types : List Node) (n : Node) (i : ℕ) → AreBeforeVersion3 types → IsBeforeVersion3 n
     → i < length (types ++ n ∷ []) → (i < length types) ⊎ (length types ≤ i)
-    → IsPlain (node_in (types ++ n ∷ []) i)
+    → IsBeforeVersion3 (node_in (types ++ n ∷ []) i)
 plain_added types n i are plain lt (inl below) =
-    subst IsPlain (sym (get_or_append_left types (n ∷ []) (nodes.prim Octet) i below)) (are i below)
+    subst IsBeforeVersion3 (sym (get_or_append_left types (n ∷ []) (nodes.prim Octet) i below))
+    (are i below)
 plain_added types n i are plain lt (inr above) =
     let last : length types ≡ i = omega (arith, length-append types (n ∷ [])) in
-    subst (λ k. IsPlain (node_in (types ++ n ∷ []) k)) last
-    (subst IsPlain (sym (get_or-append_seam types n [] (nodes.prim Octet))) plain)
+    subst (λ k. IsBeforeVersion3 (node_in (types ++ n ∷ []) k)) last
+    (subst IsBeforeVersion3 (sym (get_or-append_seam types n [] (nodes.prim Octet))) plain)
 
 -- a type that a declaration adds has nothing to do with anys
 anys_stay : (version : ℕ) (types : List Node) (fronts : List (List ℕ)) (n : Node) → AreFormed types
@@ -181,7 +185,7 @@ none_before : {X Y : Type 0} (f : X → Y) (o : Option X) → option_map f o ≡
 none_before f None e = refl
 none_before f (Some x) e = absurd cc
 
-abbrev same_key : ArrayVec ℕ → ArrayVec ℕ → Bool
+abbrev same_key : (one other : ArrayVec ℕ) → Bool
 same_key a b = bytes_eq a.items b.items
 
 -- the entries after a new name was put
@@ -252,7 +256,8 @@ distinct_push name_in d xs x before none i j li lj e =
 -- ---- an operation
 
 pub operation_added : {Types : List Node → Type 0} (t : Table) (o : Operation) → TableOf Types t
-    → IsOperation t.types o → keyed_number t o.key ≡ None → length t.operations + 1 < 2 ^ 32
+    → IsOperation t.types o → operation_number_of_key t o.key ≡ None
+    → length t.operations + 1 < 2 ^ 32
     → TableOf Types (with_operation t o)
 operation_added t o laws call new few = record {
   types = laws.types;
@@ -275,13 +280,13 @@ operation_added t o laws call new few = record {
 -- the table after a new operation was put
 pub operation_put : (here : Table) (os new : List (ArrayVec ℕ × Signature)) (t : Table)
     (key : ArrayVec ℕ) (s : Signature) (name : List ℕ) → here.operations ≡ map operation_view os
-    → here ≡ t → key.items ≡ name → keyed_number t name ≡ None
+    → here ≡ t → key.items ≡ name → operation_number_of_key t name ≡ None
     → new ≡ insert_entry same_key os key s
     → record here { operations = map operation_view new }
     ≡ with_operation t (record { key = name; request = s.request.0; reply = s.reply.0 })
 operation_put here os new t key s name kept view same none is =
-    let none_here : keyed_number here name ≡ None =
-    ap (λ (u : Table). keyed_number u name) view ∙ none in
+    let none_here : operation_number_of_key here name ≡ None =
+    ap (λ (u : Table). operation_number_of_key u name) view ∙ none in
     let none_view = ap (λ xs. position (λ (o : Operation). bytes_eq name o.key) xs) (sym kept)
     ∙ none_here in
     let put = entries_put operation_view (λ (o : Operation). o.key) os new key s name same
@@ -306,7 +311,8 @@ exception_added t e laws raised new few = record {
   operations_distinct = laws.operations_distinct;
   exceptions_distinct = distinct_push (λ (x : Exception). x.repository) no_exception t.exceptions e
       laws.exceptions_distinct
-      (none_before (members_at t) (position (λ (x : Exception). bytes_eq e.repository x.repository)
+      (none_before (exception_members_at t) (position
+      (λ (x : Exception). bytes_eq e.repository x.repository)
       t.exceptions) new);
   operations_few = laws.operations_few;
   exceptions_few = omega (arith, length-append t.exceptions (e ∷ []));
@@ -330,7 +336,8 @@ exception_put here es new t key m name kept view same none is =
     ap (λ (u : Table). exception_in u name) view ∙ none in
     let none_view = ap (λ xs. position (λ (e : Exception). bytes_eq name e.repository) xs)
     (sym kept)
-    ∙ none_before (members_at here) (position (λ (e : Exception). bytes_eq name e.repository)
+    ∙ none_before (exception_members_at here)
+    (position (λ (e : Exception). bytes_eq name e.repository)
     here.exceptions) none_here in
     let put = entries_put exception_view (λ (e : Exception). e.repository) es new key m name same
     (λ e. refl) none_view is in
@@ -358,7 +365,8 @@ identity_added t e laws identified new = record {
   identities = All-push (IsIdentity t.types) t.identities e laws.identities identified;
   identities_distinct = distinct_push (λ (x : Identity). x.repository) no_identity t.identities e
       laws.identities_distinct
-      (none_before (identity_at t) (position (λ (x : Identity). bytes_eq e.repository x.repository)
+      (none_before (identity_type_at t) (position
+      (λ (x : Identity). bytes_eq e.repository x.repository)
       t.identities) new);
   interfaces_few = laws.interfaces_few;
   anys = laws.anys;
@@ -376,7 +384,7 @@ identity_put here es new t key m name kept view same none is =
     ap (λ (u : Table). identified_in u name) view ∙ none in
     let none_view = ap (λ xs. position (λ (e : Identity). bytes_eq name e.repository) xs)
     (sym kept)
-    ∙ none_before (identity_at here) (position (λ (e : Identity). bytes_eq name e.repository)
+    ∙ none_before (identity_type_at here) (position (λ (e : Identity). bytes_eq name e.repository)
     here.identities) none_here in
     let put = entries_put identity_view (λ (e : Identity). e.repository) es new key m name same
     (λ e. refl) none_view is in

@@ -6,20 +6,20 @@ use Rattle.std.proofs.lemmas.Bool.{false≢true}
 use Rattle.giop_tokens.specs.declared.fault.TokenError.{TokenError}
 use Rattle.giop_tokens.specs.declared.fault.SigFaultKind.TheVariants as kinds
 use Rattle.giop_tokens.specs.declared.marks.Mark.TheVariants as marks
-use Rattle.giop_tokens.specs.Tokens.{Token, word, mark, left_of, AreTokens}
+use Rattle.giop_tokens.specs.Tokens.{Token, word, mark, octets_left_at_token, AreTokens}
 use Rattle.giop_tokens.specs.Reading.{◌>>=◌}
 use Rattle.giop_tokens.specs.Readers.{mark_if}
-use Rattle.giop_tokens.proofs.ReaderLaws.{ok_is, Takes, mark_if_again, mark_takes}
+use Rattle.giop_tokens.proofs.ReaderLaws.{ok_is, TakesToken, mark_if_again, mark_takes}
 use Rattle.giop_sig.specs.declared.announced.TypeWord.{TypeWord}
 use Rattle.giop_sig.specs.Table.{Node}
 use Rattle.giop_sig.specs.Table as nodes
 use Rattle.giop_sig.specs.Grammar.{Announcement, spell_identity, type_word}
-use Rattle.giop_sig.specs.Scopes.{Names, Scope, add_announced_type, announced_as, declare, is_third, with_announced}
-use Rattle.giop_sig.specs.Validity.{FaultKind, OfAnnounced, OfDeclaration}
+use Rattle.giop_sig.specs.Scopes.{Names, Scope, add_announced_type, announced_as, declare, is_version_3, with_announced}
+use Rattle.giop_sig.specs.Validity.{FaultKind, OfAnnouncedName, OfDeclaration}
 use Rattle.giop_sig.specs.Outcomes.{refused}
-use Rattle.giop_sig.specs.ItemReading.{announces_at, announces_by, announcement_at, declared_at, end_of, Declared}
+use Rattle.giop_sig.specs.ItemReading.{announces_at, announces_by, announcement_at, declared_name_at, declaration_end_at, DeclarationRead}
 use Rattle.giop_sig.proofs.AddTypeLaws.{node_more}
-use Rattle.giop_sig.proofs.ReadingLaws.{Out, broken, out_bind, Apart, if_apart}
+use Rattle.giop_sig.proofs.ReadingLaws.{IsMadeOrBreaksRule, broken, out_bind, BeginsWithoutMark, if_apart}
 use Rattle.giop_sig.proofs.TypeLaws.{third_keeps}
 use Rattle.giop_sig.proofs.ItemTaken.{DeclaredTaken, declared_takes, end_takes, TakenDeclaration}
 use Rattle.giop_sig.proofs.ItemLaws.{declared_reads, end_reads}
@@ -32,19 +32,21 @@ other_by : (third : Bool) (text : List ℕ) → mark_if marks.Semicolon text ≡
 other_by true text h = rw h refl
 other_by false text h = refl
 
-pub not_announced : (s : Scope) (text : List ℕ) (ts : List Token) → Apart marks.Semicolon ts
+pub not_announced : (s : Scope) (text : List ℕ) (ts : List Token)
+    → BeginsWithoutMark marks.Semicolon ts
     → AreTokens text ts → announces_at s text ≡ Ok false
 unfolding announces_at
 not_announced s text ts apart h =
-    other_by (is_third s.names) text (if_apart marks.Semicolon text ts apart h)
+    other_by (is_version_3 s.names) text (if_apart marks.Semicolon text ts apart h)
 
 -- neither a repository id nor what comes after it is a semicolon
-pub identity_apart : (id : Option (List ℕ)) (more : List Token) → Apart marks.Semicolon more
-    → Apart marks.Semicolon (spell_identity id more)
+pub identity_apart : (id : Option (List ℕ)) (more : List Token)
+    → BeginsWithoutMark marks.Semicolon more
+    → BeginsWithoutMark marks.Semicolon (spell_identity id more)
 identity_apart None more apart = apart
 identity_apart (Some id) more apart = refl
 
-is_announced : (s : Scope) (text : List ℕ) (more : List Token) → is_third s.names ≡ true
+is_announced : (s : Scope) (text : List ℕ) (more : List Token) → is_version_3 s.names ≡ true
     → AreTokens text (mark marks.Semicolon ∷ more) → announces_at s text ≡ Ok true
 unfolding announces_at
 is_announced s text more third h = rw (third, mark_if_again marks.Semicolon text more h) refl
@@ -52,39 +54,44 @@ is_announced s text more third h = rw (third, mark_if_again marks.Semicolon text
 -- ---- a text that is spelled so
 
 announced_keeps : (names : Names) (w : List ℕ) → is_some (announced_as names w) ≡ false
-    → (k : FaultKind) → OfAnnounced k names w
+    → (k : FaultKind) → OfAnnouncedName k names w
 announced_keeps names w new kinds.Duplicate = new
 announced_keeps names w new _ = tt
 
-abbrev announced_rule : Scope → TypeWord → List ℕ → FaultKind → Type 0
+abbrev announced_rule : (scope : Scope) (kind : TypeWord) (w : List ℕ) (k : FaultKind) → Type 0
 announced_rule s kind w k = OfDeclaration k s (Announcement kind w)
 
 announced_by : (s : Scope) (kind : TypeWord) (text w rest : List ℕ) (more : List Token) (v : Bool)
     → is_some (announced_as s.names w) ≡ v → AreTokens rest (mark marks.Semicolon ∷ more)
     → (announced_rule s kind w kinds.Duplicate → is_some (announced_as s.names w) ≡ false)
     → (is_some (announced_as s.names w) ≡ false → (k : FaultKind) → announced_rule s kind w k)
-    → Out {X = Declared} (λ rest. (with_announced kind w (add_announced_type s), rest))
+    → IsMadeOrBreaksRule {X = DeclarationRead} (λ rest. (
+      with_announced kind w
+          (add_announced_type s),
+      rest,
+    ))
     (announced_rule s kind w) (with_announced kind w (add_announced_type s)).table.types more
     (cond v (Err (refused kinds.Duplicate text))
-    (end_of (left_of text) (with_announced kind w (add_announced_type s)) rest))
+    (declaration_end_at (octets_left_at_token text)
+    (with_announced kind w (add_announced_type s)) rest))
 announced_by s kind text w rest more true e m new keeps =
     broken (refused kinds.Duplicate text) (λ rule. false≢true (sym (new rule) ∙ e))
 announced_by s kind text w rest more false e m new keeps =
-    end_reads (left_of text) (with_announced kind w (add_announced_type s))
+    end_reads (octets_left_at_token text) (with_announced kind w (add_announced_type s))
     (announced_rule s kind w) rest more m (keeps e)
 
 -- what reading gives for an announcement, after its first word
 pub announced_reads : (s : Scope) (kind : TypeWord) (w text : List ℕ) (more : List Token)
-    (after : List ℕ → List ℕ → Result Declared TokenError)
+    (after : List ℕ → List ℕ → Result DeclarationRead TokenError)
     → OfDeclaration kinds.Syntax s (Announcement kind w)
     → AreTokens text (word w ∷ mark marks.Semicolon ∷ more)
-    → Out {X = Declared} (λ rest. (declare s (Announcement kind w), rest))
+    → IsMadeOrBreaksRule {X = DeclarationRead} (λ rest. (declare s (Announcement kind w), rest))
     (announced_rule s kind w) (declare s (Announcement kind w)).table.types more
-    (declared_at s (Some kind) s.table.declared text >>= λ n. announces_at s n.1 >>= λ a.
+    (declared_name_at s (Some kind) s.table.declared text >>= λ n. announces_at s n.1 >>= λ a.
     cond a (announcement_at s kind text n.0 n.1) (after n.0 n.1))
 unfolding announcement_at declare OfDeclaration
 announced_reads s kind w text more after free t =
-    out_bind (declared_at s (Some kind) s.table.declared text)
+    out_bind (declared_name_at s (Some kind) s.table.declared text)
     (λ n. announces_at s n.1 >>= λ a.
     cond a (announcement_at s kind text n.0 n.1) (after n.0 n.1))
     (declared_reads s.table.types s (Some kind) s.table.declared text w
@@ -103,20 +110,22 @@ third_by false text e = let no = ok_is false true e in absurd (false≢true no)
 
 -- a declaration announces its name in a file of version 3 only
 pub announces_third : (s : Scope) (text : List ℕ) → announces_at s text ≡ Ok true
-    → is_third s.names ≡ true
+    → is_version_3 s.names ≡ true
 unfolding announces_at
-announces_third s text e = third_by (is_third s.names) text e
+announces_third s text e = third_by (is_version_3 s.names) text e
 
 announcement_by : (s : Scope) (kind : TypeWord) (whole text : List ℕ) (n : List ℕ × List ℕ)
-    (x : Declared) (v : Bool) → Takes whole (word (type_word kind)) text
-    → DeclaredTaken s (Some kind) s.table.declared text n → is_third s.names ≡ true
+    (x : DeclarationRead) (v : Bool) → TakesToken whole (word (type_word kind)) text
+    → DeclaredTaken s (Some kind) s.table.declared text n → is_version_3 s.names ≡ true
     → cond v (Err (refused kinds.Duplicate text))
-    (end_of (left_of text) (with_announced kind n.0 (add_announced_type s)) n.1) ≡ Ok x
+    (declaration_end_at (octets_left_at_token text)
+    (with_announced kind n.0 (add_announced_type s)) n.1) ≡ Ok x
     → TakenDeclaration s whole x
 unfolding OfDeclaration
 announcement_by s kind whole text n x true before d third e = absurd cc
 announcement_by s kind whole text n x false before d third e =
-    let end = end_takes (left_of text) (with_announced kind n.0 (add_announced_type s)) n.1 x e in
+    let end = end_takes (octets_left_at_token text)
+    (with_announced kind n.0 (add_announced_type s)) n.1 x e in
     record {
       declaration = Announcement kind n.0;
       took = record {
@@ -129,8 +138,8 @@ announcement_by s kind whole text n x false before d third e =
     }
 
 pub announcement_takes : (s : Scope) (kind : TypeWord) (whole text : List ℕ) (n : List ℕ × List ℕ)
-    (x : Declared) → Takes whole (word (type_word kind)) text
-    → declared_at s (Some kind) s.table.declared text ≡ Ok n → is_third s.names ≡ true
+    (x : DeclarationRead) → TakesToken whole (word (type_word kind)) text
+    → declared_name_at s (Some kind) s.table.declared text ≡ Ok n → is_version_3 s.names ≡ true
     → announcement_at s kind text n.0 n.1 ≡ Ok x → TakenDeclaration s whole x
 unfolding announcement_at
 announcement_takes s kind whole text n x before d third e =

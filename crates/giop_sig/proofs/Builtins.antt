@@ -14,16 +14,16 @@ use Rattle.giop_sig.specs.declared.types.Fixed.{Fixed}
 use Rattle.giop_sig.specs.declared.types.Fixed.TheVariants as fixeds
 use Rattle.giop_sig.specs.declared.numbers.TheConstants.{BUILTIN_LEN, CODE_SETS, CONTEXT_ID, THIRD_LEN, ULONG}
 use Rattle.giop_sig.specs.Fits.{IsFit}
-use Rattle.giop_sig.specs.Table.{Node, Part, Case, Table, node_in, takes_octet, IsFormed, IsInner, IsPart, IsSwitch, TakesOctet, IsScalarNode}
+use Rattle.giop_sig.specs.Table.{Node, Part, Case, Table, node_in, takes_octet, IsFormed, IsPartNumber, IsPart, IsDiscriminatorNumber, TakesOctet, IsScalarNode}
 use Rattle.giop_sig.specs.Table as nodes
-use Rattle.giop_sig.specs.Trees.{tree, depth_at, depth_in, depth_of, wide_room, AreFormed, AreTypes, AreWide, IsSettled, IsWide, IsWidePart}
+use Rattle.giop_sig.specs.Trees.{tree, depth_at, depth_in, depth_of, parameters_room, AreFormed, AreTypes, AllHaveParameterTypes, IsResolved, HasParameterTypes, IsParameterType}
 use Rattle.giop_sig.specs.Heard.{first_fronts}
-use Rattle.giop_sig.specs.Builtin.{builtin_types, compound_types, leaf_types, named_types, number_in, older, renumbered}
-use Rattle.giop_sig.specs.AnyTypes.{any_types, first_table, first_types, third_types}
-use Rattle.giop_sig.specs.HeaderTypes.{fixed_number, third_fixed, header_number, header_rows, header_type, cell_of, cell_in, ArePlain, IsPlain, IsTable, KnowsAnys, TableOf}
+use Rattle.giop_sig.specs.Builtin.{builtin_types, compound_types, leaf_types, numbers_with_names, number_in_version, older_number, renumbered}
+use Rattle.giop_sig.specs.AnyTypes.{any_types, first_table, first_types, version_3_types}
+use Rattle.giop_sig.specs.HeaderTypes.{fixed_type_number, fixed_type_in_version_3, header_type_number, header_rows, header_type, flattened_cell, cell_of_minor, AreBeforeVersion3, IsBeforeVersion3, IsTable, KnowsAnys, TableOf}
 use Rattle.giop_sig.proofs.Rooms.{tree_moved}
 use Rattle.giop_sig.proofs.Formed.{SameNodes, formed_moved}
-use Rattle.giop_sig.proofs.Depths.{FormedBelow, IsSteady, deepest_more}
+use Rattle.giop_sig.proofs.Depths.{FormedBelow, HasNoAnyOrRecursion, deepest_more}
 use Rattle.giop_sig.proofs.Solid.{both, fit_at, takes_by}
 
 scalar_test : Node → Bool
@@ -42,14 +42,15 @@ scalar_by _ e = absurd cc
 switch_test : List Node → ℕ → ℕ → Bool
 switch_test types n i = ltb i n && scalar_test (node_in types i)
 
-switch_by : (types : List Node) (n i : ℕ) → switch_test types n i ≡ true → IsSwitch types n i
+switch_by : (types : List Node) (n i : ℕ) → switch_test types n i ≡ true
+    → IsDiscriminatorNumber types n i
 unfolding switch_test
 switch_by types n i e = search (arith, both, ltb, ltb-true, scalar_by)
 
 inner_test : List Node → ℕ → ℕ → Bool
 inner_test types n i = ltb i n && takes_octet (node_in types i)
 
-inner_by : (types : List Node) (n i : ℕ) → inner_test types n i ≡ true → IsInner types n i
+inner_by : (types : List Node) (n i : ℕ) → inner_test types n i ≡ true → IsPartNumber types n i
 unfolding inner_test
 inner_by types n i e = search (arith, both, ltb, ltb-true, takes_by)
 
@@ -192,11 +193,11 @@ builtin_depth : depth_of builtin_types ≡ 9
 unfolding depth_of depth_at builtin_types
 builtin_depth = refl
 
-third_depth : depth_of third_types ≡ 9
-unfolding depth_of depth_at third_types any_types
+third_depth : depth_of version_3_types ≡ 9
+unfolding depth_of depth_at version_3_types any_types
 third_depth = refl
 
-depth_by : (v : Bool) → depth_of (cond v third_types builtin_types) ≡ 9
+depth_by : (v : Bool) → depth_of (cond v version_3_types builtin_types) ≡ 9
 depth_by true = third_depth
 depth_by false = builtin_depth
 
@@ -208,16 +209,16 @@ unfolding table_test node_test names_test cases_test parts_test part_test switch
     scalar_test builtin_types
 builtin_test = refl
 
-third_test : table_test third_types 0 third_types ≡ true
+third_test : table_test version_3_types 0 version_3_types ≡ true
 unfolding table_test node_test names_test cases_test narrow_test parts_test part_test switch_test
-    inner_test scalar_test third_types any_types
+    inner_test scalar_test version_3_types any_types
 third_test = refl
 
-are_by : (v : Bool) → AreFormed (cond v third_types builtin_types)
-unfolding builtin_types third_types any_types
+are_by : (v : Bool) → AreFormed (cond v version_3_types builtin_types)
+unfolding builtin_types version_3_types any_types
 are_by true = record {
   few = lit< tt;
-  formed = λ i lt. table_by third_types 0 third_types i i third_test lt (omega arith);
+  formed = λ i lt. table_by version_3_types 0 version_3_types i i third_test lt (omega arith);
 }
 are_by false = record {
   few = lit< tt;
@@ -225,22 +226,22 @@ are_by false = record {
 }
 
 -- none of the types is recursive
-unfoldable pub is_recursive : Node → Bool
+unfoldable pub is_recursive : (node : Node) → Bool
 is_recursive (nodes.recursive bound element) = true
 is_recursive node = false
 
-unfoldable pub none_recursive : List Node → Bool
+unfoldable pub none_recursive : (nodes : List Node) → Bool
 none_recursive [] = true
 none_recursive (n ∷ ns) = not (is_recursive n) && none_recursive ns
 
 settled_by : (types : List Node) (node : Node) → not (is_recursive node) ≡ true
-    → IsSettled types node
+    → IsResolved types node
 unfolding is_recursive
 settled_by types (nodes.recursive bound element) e = absurd cc
 settled_by types _ e = tt
 
 none_settled : (types ns : List Node) (i : ℕ) → none_recursive ns ≡ true → i < length ns
-    → IsSettled types (node_in ns i)
+    → IsResolved types (node_in ns i)
 unfolding none_recursive
 none_settled types [] i e lt = absurd (omega arith)
 none_settled types (n ∷ ns) zero e lt =
@@ -248,8 +249,8 @@ none_settled types (n ∷ ns) zero e lt =
 none_settled types (n ∷ ns) (suc i) e lt =
     none_settled types ns i (both (not (is_recursive n)) (none_recursive ns) e).1 (omega arith)
 
-pub first_none : (v : Bool) → none_recursive (cond v third_types builtin_types) ≡ true
-unfolding none_recursive is_recursive builtin_types third_types any_types
+pub first_none : (v : Bool) → none_recursive (cond v version_3_types builtin_types) ≡ true
+unfolding none_recursive is_recursive builtin_types version_3_types any_types
 first_none true = refl
 first_none false = refl
 
@@ -265,8 +266,8 @@ first_are version = record {
 pub first_shallow : (version : ℕ) → depth_of (first_types version) ≤ 24
 first_shallow version = (first_are version).shallow
 
-few_by : (v : Bool) → length (cond v third_types builtin_types) ≤ THIRD_LEN
-unfolding builtin_types third_types any_types
+few_by : (v : Bool) → length (cond v version_3_types builtin_types) ≤ THIRD_LEN
+unfolding builtin_types version_3_types any_types
 few_by true = lit≤ tt
 few_by false = lit≤ tt
 
@@ -274,8 +275,8 @@ pub first_few : (version : ℕ) → length (first_types version) ≤ THIRD_LEN
 first_few version = few_by (version == 3)
 
 pub more_by : (v w : Bool) → (v ≡ true → w ≡ true)
-    → length (cond v third_types builtin_types) ≤ length (cond w third_types builtin_types)
-unfolding builtin_types third_types any_types
+    → length (cond v version_3_types builtin_types) ≤ length (cond w version_3_types builtin_types)
+unfolding builtin_types version_3_types any_types
 more_by true true on = lit≤ tt
 more_by true false on = let e = on refl in absurd cc
 more_by false true on = lit≤ tt
@@ -293,7 +294,7 @@ plain_test (nodes.recursive bound element) = false
 plain_test (nodes.typecode wide kind cases) = false
 plain_test node = true
 
-plain_by : (node : Node) → plain_test node ≡ true → IsPlain node
+plain_by : (node : Node) → plain_test node ≡ true → IsBeforeVersion3 node
 unfolding plain_test
 plain_by nodes.wide_text e = absurd cc
 plain_by nodes.wide_char e = absurd cc
@@ -308,7 +309,7 @@ all_plain_test : List Node → Bool
 all_plain_test [] = true
 all_plain_test (x ∷ xs) = plain_test x && all_plain_test xs
 
-all_plain_by : (xs : List Node) → all_plain_test xs ≡ true → ArePlain xs
+all_plain_by : (xs : List Node) → all_plain_test xs ≡ true → AreBeforeVersion3 xs
 unfolding all_plain_test
 all_plain_by [] e i lt = absurd (omega arith)
 all_plain_by (x ∷ xs) e zero lt = search (arith, both, plain_by)
@@ -316,19 +317,20 @@ all_plain_by (x ∷ xs) e (suc i) lt = let k = both (plain_test x) (all_plain_te
     all_plain_by xs k.1 i (omega arith)
 
 -- no type of versions 1 and 2 has to do with anys
-builtin_plain : ArePlain builtin_types
+builtin_plain : AreBeforeVersion3 builtin_types
 unfolding all_plain_test plain_test builtin_types
 builtin_plain = all_plain_by builtin_types refl
 
-pub wide_plain : (types : List Node) (node : Node) → IsPlain node → IsWide types node
+pub wide_plain : (types : List Node) (node : Node) → IsBeforeVersion3 node
+    → HasParameterTypes types node
 wide_plain types (nodes.typecode wide kind cases) plain = absurd plain
 wide_plain types _ plain = tt
 
-plain_wide : (types : List Node) → ArePlain types → AreWide types
+plain_wide : (types : List Node) → AreBeforeVersion3 types → AllHaveParameterTypes types
 plain_wide types are i lt = wide_plain types (node_in types i) (are i lt)
 
-first_anys : (version : ℕ) (types : List Node) → ((version ≡ 3 → ⊥) → ArePlain types)
-    → AreWide types → KnowsAnys version types first_fronts
+first_anys : (version : ℕ) (types : List Node) → ((version ≡ 3 → ⊥) → AreBeforeVersion3 types)
+    → AllHaveParameterTypes types → KnowsAnys version types first_fronts
 first_anys version types plain wide = record {
   plain = plain;
   wide = wide;
@@ -339,18 +341,19 @@ first_anys version types plain wide = record {
 
 wide_part_test : List Node → ℕ → Bool
 wide_part_test types i =
-    ltb i (length types) && (takes_octet (node_in types i) && leb (depth_in types i) wide_room)
+    ltb i (length types) && (takes_octet (node_in types i) && leb
+    (depth_in types i) parameters_room)
 
-wide_part_by : (types : List Node) (i : ℕ) → wide_part_test types i ≡ true → IsWidePart types i
+wide_part_by : (types : List Node) (i : ℕ) → wide_part_test types i ≡ true → IsParameterType types i
 unfolding wide_part_test
 wide_part_by types i e =
     let k = both (ltb i (length types))
-    (takes_octet (node_in types i) && leb (depth_in types i) wide_room) e in
-    let t = both (takes_octet (node_in types i)) (leb (depth_in types i) wide_room) k.1 in
+    (takes_octet (node_in types i) && leb (depth_in types i) parameters_room) e in
+    let t = both (takes_octet (node_in types i)) (leb (depth_in types i) parameters_room) k.1 in
     record {
       known = ltb-true i (length types) k.0;
       takes = takes_by (node_in types i) t.0;
-      shallow = leb-true (depth_in types i) wide_room t.1;
+      shallow = leb-true (depth_in types i) parameters_room t.1;
     }
 
 wide_cases_test : List Node → List Case → Bool
@@ -358,7 +361,7 @@ wide_cases_test types [] = true
 wide_cases_test types (c ∷ cs) = wide_part_test types c.part.type && wide_cases_test types cs
 
 wide_cases_by : (types : List Node) (cs : List Case) → wide_cases_test types cs ≡ true
-    → AllByRecursion (λ c. IsWidePart types c.part.type) cs
+    → AllByRecursion (λ c. IsParameterType types c.part.type) cs
 unfolding wide_cases_test
 wide_cases_by types [] e = tt
 wide_cases_by types (c ∷ cs) e =
@@ -369,10 +372,11 @@ wide_test : List Node → Node → Bool
 wide_test types (nodes.typecode wide kind cases) = wide_cases_test types cases
 wide_test types node = true
 
-wide_by : (types : List Node) (node : Node) → wide_test types node ≡ true → IsWide types node
+wide_by : (types : List Node) (node : Node) → wide_test types node ≡ true
+    → HasParameterTypes types node
 unfolding wide_test
 wide_by types (nodes.typecode wide kind cases) e =
-    All-from_recursion (λ (c : Case). IsWidePart types c.part.type) cases
+    All-from_recursion (λ (c : Case). IsParameterType types c.part.type) cases
     (wide_cases_by types cases e)
 wide_by types _ e = tt
 
@@ -381,7 +385,7 @@ all_wide_test types [] = true
 all_wide_test types (x ∷ xs) = wide_test types x && all_wide_test types xs
 
 all_wide_by : (types xs : List Node) (i : ℕ) → all_wide_test types xs ≡ true → i < length xs
-    → IsWide types (node_in xs i)
+    → HasParameterTypes types (node_in xs i)
 unfolding all_wide_test
 all_wide_by types [] i e lt = absurd (omega arith)
 all_wide_by types (x ∷ xs) zero e lt = search (arith, both, wide_by)
@@ -389,16 +393,16 @@ all_wide_by types (x ∷ xs) (suc i) e lt =
     let k = both (wide_test types x) (all_wide_test types xs) e in
     all_wide_by types xs i k.1 (omega arith)
 
-third_wide_test : all_wide_test third_types third_types ≡ true
-unfolding all_wide_test wide_test wide_cases_test wide_part_test depth_at third_types any_types
+third_wide_test : all_wide_test version_3_types version_3_types ≡ true
+unfolding all_wide_test wide_test wide_cases_test wide_part_test depth_at version_3_types any_types
 third_wide_test = refl
 
-third_wide : AreWide third_types
-third_wide i lt = all_wide_by third_types third_types i third_wide_test lt
+third_wide : AllHaveParameterTypes version_3_types
+third_wide i lt = all_wide_by version_3_types version_3_types i third_wide_test lt
 
 anys_by : (version : ℕ) (v : Bool) → (version == 3) ≡ v
-    → KnowsAnys version (cond v third_types builtin_types) first_fronts
-anys_by version true third = first_anys version third_types
+    → KnowsAnys version (cond v version_3_types builtin_types) first_fronts
+anys_by version true third = first_anys version version_3_types
     (λ other. absurd (other (eqb-true version 3 third))) third_wide
 anys_by version false other = first_anys version builtin_types (λ other. builtin_plain)
     (plain_wide builtin_types builtin_plain)
@@ -461,90 +465,94 @@ next_few all n types are lt front =
 
 -- the types after the built-in ones
 pub third_node : (n : ℕ) → BUILTIN_LEN ≤ n
-    → node_in third_types n ≡ node_in any_types (n - BUILTIN_LEN)
-unfolding third_types
+    → node_in version_3_types n ≡ node_in any_types (n - BUILTIN_LEN)
+unfolding version_3_types
 third_node n le =
-    get_or-append_right (leaf_types ++ named_types ++ compound_types) any_types n
+    get_or-append_right (leaf_types ++ numbers_with_names ++ compound_types) any_types n
     (nodes.prim Octet) le
 
-third_same : map (renumbered (λ n. n)) third_types ≡ third_types
-unfolding third_types any_types
+third_same : map (renumbered (λ n. n)) version_3_types ≡ version_3_types
+unfolding version_3_types any_types
 third_same = refl
 
 -- a type of version 3, with the numbers of its version
-numbered_third : (n : ℕ) → n < length third_types
-    → renumbered (λ n. n) (node_in third_types n) ≡ node_in third_types n
+numbered_third : (n : ℕ) → n < length version_3_types
+    → renumbered (λ n. n) (node_in version_3_types n) ≡ node_in version_3_types n
 numbered_third n lt =
-    sym (get_or-map (renumbered (λ n. n)) third_types n (nodes.prim Octet) (nodes.prim Octet) lt)
+    sym (get_or-map (renumbered (λ n. n)) version_3_types n (nodes.prim Octet)
+    (nodes.prim Octet) lt)
     ∙ ap (λ types. node_in types n) third_same
 
 numbered_older : (n : ℕ) → n < length builtin_types
-    → node_in builtin_types n ≡ renumbered older (node_in (leaf_types ++ compound_types) n)
+    → node_in builtin_types n ≡ renumbered older_number (node_in (leaf_types ++ compound_types) n)
 unfolding builtin_types
 numbered_older n lt =
-    get_or-map (renumbered older) (leaf_types ++ compound_types) n (nodes.prim Octet)
+    get_or-map (renumbered older_number) (leaf_types ++ compound_types) n (nodes.prim Octet)
     (nodes.prim Octet) lt
 
 -- types with the same number in each version
 leaf_by : (n : ℕ) → n < CONTEXT_ID
-    → node_in third_types n ≡ node_in (leaf_types ++ compound_types) n
-unfolding third_types
+    → node_in version_3_types n ≡ node_in (leaf_types ++ compound_types) n
+unfolding version_3_types
 leaf_by n lt =
-    get_or_append_left leaf_types (named_types ++ compound_types ++ any_types) (nodes.prim Octet) n
+    get_or_append_left leaf_types (numbers_with_names ++ compound_types ++ any_types)
+    (nodes.prim Octet) n
     lt
     ∙ sym (get_or_append_left leaf_types compound_types (nodes.prim Octet) n lt)
 
 -- types whose number is greater by 4 in version 3
 later_by : (n : ℕ) → CONTEXT_ID ≤ n → n < length builtin_types
-    → node_in third_types (n + 4) ≡ node_in (leaf_types ++ compound_types) n
-unfolding third_types builtin_types
+    → node_in version_3_types (n + 4) ≡ node_in (leaf_types ++ compound_types) n
+unfolding version_3_types builtin_types
 later_by n le lt =
     let less : n + 4 - 17 ≡ n - CONTEXT_ID = omega arith in
-    get_or-append_right (leaf_types ++ named_types) (compound_types ++ any_types) (n + 4)
+    get_or-append_right (leaf_types ++ numbers_with_names) (compound_types ++ any_types) (n + 4)
     (nodes.prim Octet) (omega arith)
     ∙ ap (node_in (compound_types ++ any_types)) less
     ∙ get_or_append_left compound_types any_types (nodes.prim Octet) (n - CONTEXT_ID) (omega arith)
     ∙ sym (get_or-append_right leaf_types compound_types n (nodes.prim Octet) le)
 
 pub leaf_older : (n : ℕ) → n < CONTEXT_ID → n < length builtin_types
-    → renumbered older (node_in third_types n) ≡ node_in builtin_types n
-leaf_older n front lt = ap (renumbered older) (leaf_by n front) ∙ sym (numbered_older n lt)
+    → renumbered older_number (node_in version_3_types n) ≡ node_in builtin_types n
+leaf_older n front lt = ap (renumbered older_number) (leaf_by n front) ∙ sym (numbered_older n lt)
 
 pub later_older : (n : ℕ) → CONTEXT_ID ≤ n → n < length builtin_types
-    → renumbered older (node_in third_types (n + 4)) ≡ node_in builtin_types n
-later_older n le lt = ap (renumbered older) (later_by n le lt) ∙ sym (numbered_older n lt)
+    → renumbered older_number (node_in version_3_types (n + 4)) ≡ node_in builtin_types n
+later_older n le lt = ap (renumbered older_number) (later_by n le lt) ∙ sym (numbered_older n lt)
 
 pub later_few : (n : ℕ) → n < length builtin_types → n + 4 < THIRD_LEN
 unfolding builtin_types
 later_few n lt = omega arith
 
-third_by : (v : Bool) (n : ℕ) → v ≡ true → n < length (cond v third_types builtin_types)
-    → renumbered (λ k. cond v k (older k)) (node_in third_types n)
-    ≡ node_in (cond v third_types builtin_types) n
+third_by : (v : Bool) (n : ℕ) → v ≡ true → n < length (cond v version_3_types builtin_types)
+    → renumbered (λ k. cond v k (older_number k)) (node_in version_3_types n)
+    ≡ node_in (cond v version_3_types builtin_types) n
 third_by true n third lt = numbered_third n lt
 third_by false n third lt = absurd cc
 
 older_by : (v : Bool) (k n : ℕ) → v ≡ false
-    → renumbered older (node_in third_types k) ≡ node_in builtin_types n
-    → renumbered (λ k. cond v k (older k)) (node_in third_types k)
-    ≡ node_in (cond v third_types builtin_types) n
+    → renumbered older_number (node_in version_3_types k) ≡ node_in builtin_types n
+    → renumbered (λ k. cond v k (older_number k)) (node_in version_3_types k)
+    ≡ node_in (cond v version_3_types builtin_types) n
 older_by true k n other same = absurd cc
 older_by false k n other same = same
 
-known_by : (v : Bool) (n : ℕ) → v ≡ false → n < length (cond v third_types builtin_types)
+known_by : (v : Bool) (n : ℕ) → v ≡ false → n < length (cond v version_3_types builtin_types)
     → n < length builtin_types
 known_by true n other lt = absurd cc
 known_by false n other lt = lt
 
 -- the type of a number in version 3
 pub in_third : (version n : ℕ) → (version == 3) ≡ true → n < length (first_types version)
-    → renumbered (number_in version) (node_in third_types n) ≡ node_in (first_types version) n
+    → renumbered (number_in_version version) (node_in version_3_types n) ≡ node_in
+    (first_types version) n
 in_third version n third lt = third_by (version == 3) n third lt
 
 -- the type of a number in another version
 pub in_older : (version k n : ℕ) → (version == 3) ≡ false
-    → renumbered older (node_in third_types k) ≡ node_in builtin_types n
-    → renumbered (number_in version) (node_in third_types k) ≡ node_in (first_types version) n
+    → renumbered older_number (node_in version_3_types k) ≡ node_in builtin_types n
+    → renumbered (number_in_version version) (node_in version_3_types k) ≡ node_in
+    (first_types version) n
 in_older version k n other same = older_by (version == 3) k n other same
 
 pub known_third : (version n : ℕ) → n < length (first_types version) → n < THIRD_LEN
@@ -557,12 +565,12 @@ known_older version n other lt = known_by (version == 3) n other lt
 -- ---- in each catalogue
 
 -- how many types of a version are before those of anys
-abbrev pub builtin_len : ℕ → ℕ
-builtin_len version = number_in version BUILTIN_LEN
+abbrev pub builtin_len : (version : ℕ) → ℕ
+builtin_len version = number_in_version version BUILTIN_LEN
 
 front_by : (v : Bool)
-    → cond v BUILTIN_LEN (older BUILTIN_LEN) ≤ length (cond v third_types builtin_types)
-unfolding builtin_types third_types any_types
+    → cond v BUILTIN_LEN (older_number BUILTIN_LEN) ≤ length (cond v version_3_types builtin_types)
+unfolding builtin_types version_3_types any_types
 front_by true = lit≤ tt
 front_by false = lit≤ tt
 
@@ -592,10 +600,10 @@ all_take_by (x ∷ xs) zero e lt = search (arith, both, takes_by)
 all_take_by (x ∷ xs) (suc i) e lt = let k = both (takes_octet x) (all_take_test xs) e in
     all_take_by xs i k.1 (omega arith)
 
-takes_by_version : (v : Bool) (i : ℕ) → i < length (cond v third_types builtin_types)
-    → TakesOctet (node_in (cond v third_types builtin_types) i)
-unfolding all_take_test builtin_types third_types any_types
-takes_by_version true i lt = all_take_by third_types i refl lt
+takes_by_version : (v : Bool) (i : ℕ) → i < length (cond v version_3_types builtin_types)
+    → TakesOctet (node_in (cond v version_3_types builtin_types) i)
+unfolding all_take_test builtin_types version_3_types any_types
+takes_by_version true i lt = all_take_by version_3_types i refl lt
 takes_by_version false i lt = all_take_by builtin_types i refl lt
 
 -- each of the first types takes an octet
@@ -609,7 +617,7 @@ steady_test (nodes.recursive bound element) = false
 steady_test (nodes.typecode wide kind cases) = false
 steady_test node = true
 
-steady_by : (node : Node) → steady_test node ≡ true → IsSteady node
+steady_by : (node : Node) → steady_test node ≡ true → HasNoAnyOrRecursion node
 unfolding steady_test
 steady_by (nodes.any code) e = absurd cc
 steady_by (nodes.recursive bound element) e = absurd cc
@@ -622,7 +630,7 @@ all_steady_test (suc n) [] = true
 all_steady_test (suc n) (x ∷ xs) = steady_test x && all_steady_test n xs
 
 all_steady_by : (n : ℕ) (xs : List Node) (i : ℕ) → all_steady_test n xs ≡ true → i < n
-    → IsSteady (node_in xs i)
+    → HasNoAnyOrRecursion (node_in xs i)
 unfolding all_steady_test
 all_steady_by zero xs i e lt = absurd (omega arith)
 all_steady_by (suc n) [] i e lt = tt
@@ -630,11 +638,11 @@ all_steady_by (suc n) (x ∷ xs) zero e lt = search (arith, both, steady_by)
 all_steady_by (suc n) (x ∷ xs) (suc i) e lt =
     let k = both (steady_test x) (all_steady_test n xs) e in all_steady_by n xs i k.1 (omega arith)
 
-steady_in : (v : Bool) (i : ℕ) → i < cond v BUILTIN_LEN (older BUILTIN_LEN)
-    → IsSteady (node_in (cond v third_types builtin_types) i)
-unfolding all_steady_test steady_test builtin_types third_types
-steady_in true i lt = all_steady_by BUILTIN_LEN third_types i refl lt
-steady_in false i lt = all_steady_by (older BUILTIN_LEN) builtin_types i refl lt
+steady_in : (v : Bool) (i : ℕ) → i < cond v BUILTIN_LEN (older_number BUILTIN_LEN)
+    → HasNoAnyOrRecursion (node_in (cond v version_3_types builtin_types) i)
+unfolding all_steady_test steady_test builtin_types version_3_types
+steady_in true i lt = all_steady_by BUILTIN_LEN version_3_types i refl lt
+steady_in false i lt = all_steady_by (older_number BUILTIN_LEN) builtin_types i refl lt
 
 first_same : (t : Table) → IsTable t
     → SameNodes (first_types t.version) t.types (builtin_len t.version)
@@ -648,23 +656,23 @@ first_placed version i lt =
     (first_are version).placed.formed i (omega (arith, first_front version))
 
 older_less : (a b : Bool) (n : ℕ) → ltb n CONTEXT_ID ≡ a → ltb n CODE_SETS ≡ b
-    → n < BUILTIN_LEN → cond a n (cond b ULONG (n - 4)) < older BUILTIN_LEN
+    → n < BUILTIN_LEN → cond a n (cond b ULONG (n - 4)) < older_number BUILTIN_LEN
 older_less true b n e f lt = omega (arith, ltb-true n CONTEXT_ID e)
 older_less false true n e f lt = lit< tt
 older_less false false n e f lt = omega (arith, ltb-false n CODE_SETS f)
 
 less_by : (v : Bool) (n : ℕ) → n < BUILTIN_LEN
-    → cond v n (older n) < cond v BUILTIN_LEN (older BUILTIN_LEN)
+    → cond v n (older_number n) < cond v BUILTIN_LEN (older_number BUILTIN_LEN)
 less_by true n lt = lt
 less_by false n lt = older_less (ltb n CONTEXT_ID) (ltb n CODE_SETS) n refl refl lt
 
 -- a built-in type is one in each version
-number_less : (version n : ℕ) → n < BUILTIN_LEN → number_in version n < builtin_len version
+number_less : (version n : ℕ) → n < BUILTIN_LEN → number_in_version version n < builtin_len version
 number_less version n lt = less_by (version == 3) n lt
 
 -- the first types that a file's types may have as parts: those with the same number in each version
-least_by : (v : Bool) → 41 ≤ length (cond v third_types builtin_types)
-unfolding builtin_types third_types any_types
+least_by : (v : Bool) → 41 ≤ length (cond v version_3_types builtin_types)
+unfolding builtin_types version_3_types any_types
 least_by true = lit≤ tt
 least_by false = lit≤ tt
 
@@ -673,12 +681,12 @@ first_leaf version k lt = omega (arith, least_by (version == 3))
 
 -- built-in types are known
 pub first_known : (version k : ℕ) → k < BUILTIN_LEN
-    → number_in version k < length (first_types version)
+    → number_in_version version k < length (first_types version)
 first_known version k lt = omega (arith, number_less version k lt, first_front version)
 
 -- in version 3 all first types are known
-whole_by : (v : Bool) → v ≡ true → length (cond v third_types builtin_types) ≡ THIRD_LEN
-unfolding third_types any_types
+whole_by : (v : Bool) → v ≡ true → length (cond v version_3_types builtin_types) ≡ THIRD_LEN
+unfolding version_3_types any_types
 whole_by true third = refl
 whole_by false third = absurd cc
 
@@ -721,14 +729,14 @@ cell_by None e = tt
 cell_by (Some n) e = ltb-true n BUILTIN_LEN e
 
 row_by : (cs : List (Option ℕ)) (i : ℕ) → row_test cs ≡ true
-    → IfSome (cell_of (slice_get cs i)) (λ n. n < BUILTIN_LEN)
+    → IfSome (flattened_cell (slice_get cs i)) (λ n. n < BUILTIN_LEN)
 unfolding row_test
 row_by [] i e = tt
 row_by (c ∷ cs) zero e = search (arith, both, cell_by)
 row_by (c ∷ cs) (suc i) e = let k = both (cell_test c) (row_test cs) e in row_by cs i k.1
 
 rows_by : (rs : List (List (Option ℕ))) (i minor : ℕ) → rows_test rs ≡ true
-    → IfSome (cell_in (slice_get rs i) minor) (λ n. n < BUILTIN_LEN)
+    → IfSome (cell_of_minor (slice_get rs i) minor) (λ n. n < BUILTIN_LEN)
 unfolding rows_test
 rows_by [] i minor e = tt
 rows_by (r ∷ rs) zero minor e = search (arith, both, row_by)
@@ -736,15 +744,15 @@ rows_by (r ∷ rs) (suc i) minor e = let k = both (row_test r) (rows_test rs) e 
     rows_by rs i minor k.1
 
 some_less : (version : ℕ) (o : Option ℕ) → IfSome o (λ n. n < BUILTIN_LEN)
-    → IfSome (option_map (number_in version) o) (λ n. n < builtin_len version)
+    → IfSome (option_map (number_in_version version) o) (λ n. n < builtin_len version)
 some_less version None less = tt
 some_less version (Some n) less = number_less version n less
 
 pub header_built_in : (version minor kind : ℕ)
-    → IfSome (header_number version minor kind) (λ n. n < builtin_len version)
+    → IfSome (header_type_number version minor kind) (λ n. n < builtin_len version)
 unfolding rows_test row_test cell_test
 header_built_in version minor kind =
-    some_less version (cell_in (slice_get header_rows kind) minor)
+    some_less version (cell_of_minor (slice_get header_rows kind) minor)
     (rows_by header_rows kind minor refl)
 
 header_tree : (t : Table) (o : Option ℕ) → IsTable t
@@ -776,11 +784,11 @@ map_twice f g (Some x) = refl
 
 -- the tree of the header type that was found
 pub header_found : {X : Type 0} (t : Table) (f : X → ℕ) (r : Option X) (minor kind : ℕ) → IsTable t
-    → option_map f r ≡ header_number t.version minor kind
+    → option_map f r ≡ header_type_number t.version minor kind
     → option_map (λ x. tree t (f x)) r ≡ header_type t.version minor kind
 header_found t f r minor kind laws e =
     map_twice f (tree t) r ∙ ap (option_map (tree t)) e
-    ∙ header_tree t (header_number t.version minor kind) laws
+    ∙ header_tree t (header_type_number t.version minor kind) laws
     (header_built_in t.version minor kind)
 
 -- each catalogue is at least as deep as its built-in types
@@ -789,9 +797,9 @@ least_depth t laws = let b = laws.begins in
     subst (λ types. 9 ≤ depth_of types) (sym b.1)
     (omega (arith, first_depth t.version, deepest_more (first_types t.version) b.0))
 
-third_fixed_less : (f : Fixed) → third_fixed f < BUILTIN_LEN
+third_fixed_less : (f : Fixed) → fixed_type_in_version_3 f < BUILTIN_LEN
 third_fixed_less fixeds.ExceptionId = lit< tt
 third_fixed_less _ = lit< tt
 
-pub fixed_built_in : (version : ℕ) (f : Fixed) → fixed_number version f < builtin_len version
-fixed_built_in version f = number_less version (third_fixed f) (third_fixed_less f)
+pub fixed_built_in : (version : ℕ) (f : Fixed) → fixed_type_number version f < builtin_len version
+fixed_built_in version f = number_less version (fixed_type_in_version_3 f) (third_fixed_less f)

@@ -5,11 +5,11 @@ use Rattle.std.proofs.lemmas.Bool.{cases_lt}
 use Rattle.giop_cdr.specs.declared.prim.Primitive.TheVariants.{Octet}
 use Rattle.giop_sig.specs.declared.types.Shape.{Shape}
 use Rattle.giop_sig.specs.declared.types.Shape.TheVariants as shapes
-use Rattle.giop_sig.specs.HeaderTypes.{ArePlain, IsPlain}
-use Rattle.giop_sig.specs.Types.{Ty, depth, most, HasInner}
+use Rattle.giop_sig.specs.HeaderTypes.{AreBeforeVersion3, IsBeforeVersion3}
+use Rattle.giop_sig.specs.Types.{Ty, depth, most, HasSmallerPart}
 use Rattle.giop_sig.specs.Table.{Node, Table, node_in, node_at, part_at, type_of, shape_of, IsFormed}
 use Rattle.giop_sig.specs.Table as nodes
-use Rattle.giop_sig.specs.Trees.{Room, grow, in_room, room_of, tree_at, tree, octet_type, depth_by, depth_at, depth_in, depth_of, part_depth, node_depth, AreFormed}
+use Rattle.giop_sig.specs.Trees.{PartLimits, tree_of_node, node_in_room, limits_in_room, tree_at, tree, octet_type, depth_by, depth_at, depth_in, depth_of, part_depth, node_depth, AreFormed}
 use Rattle.giop_sig.proofs.Nodes.{part_grown}
 use Rattle.giop_sig.proofs.Formed.{SameNodes, part_formed}
 
@@ -41,7 +41,7 @@ most_above (suc n) f i lt = most_last n f i (most_above n f i) lt (cases_lt i n)
 
 -- ---- the depth of a shape
 
-pub by_same : (s : Shape) (f g : ℕ → ℕ) → ((k : ℕ) → HasInner s k → f k ≡ g k)
+pub by_same : (s : Shape) (f g : ℕ → ℕ) → ((k : ℕ) → HasSmallerPart s k → f k ≡ g k)
     → depth_by s f ≡ depth_by s g
 by_same (shapes.Members count) f g same = ap (λ n. 1 + n) (most_same count f g same)
 by_same (shapes.Union count) f g same = ap (λ n. 1 + max 1 n) (most_same count f g same)
@@ -52,7 +52,7 @@ by_same shapes.Encapsulation f g same = ap (λ n. 1 + n) (same 0 tt)
 by_same shapes.Led f g same = ap (λ n. 1 + n) (same 0 refl)
 by_same _ f g same = refl
 
-by_more : (s : Shape) (f g : ℕ → ℕ) → ((k : ℕ) → HasInner s k → f k ≤ g k)
+by_more : (s : Shape) (f g : ℕ → ℕ) → ((k : ℕ) → HasSmallerPart s k → f k ≤ g k)
     → depth_by s f ≤ depth_by s g
 by_more (shapes.Members count) f g less = omega (arith, most_more count f g less)
 by_more (shapes.Union count) f g less = omega (arith, most_more count f g less)
@@ -64,14 +64,14 @@ by_more shapes.Led f g less = omega (arith, less 0 refl)
 by_more _ f g less = omega arith
 
 -- a shape of a depth of at least two
-abbrev IsTwoDeep : Shape → Type 0
+abbrev IsTwoDeep : (shape : Shape) → Type 0
 IsTwoDeep (shapes.Union count) = Unit {0}
 IsTwoDeep shapes.Tagged = Unit {0}
 IsTwoDeep (shapes.Recursive bound) = Unit {0}
 IsTwoDeep s = ⊥
 
 by_within : (s : Shape) (f : ℕ → ℕ) (b : ℕ) → (IsTwoDeep s → 0 < b)
-    → ((k : ℕ) → HasInner s k → f k ≤ b) → depth_by s f ≤ suc b
+    → ((k : ℕ) → HasSmallerPart s k → f k ≤ b) → depth_by s f ≤ suc b
 by_within (shapes.Members count) f b some each = omega (arith, most_within count f b each)
 by_within (shapes.Union count) f b some each = omega (arith, some tt, most_within count f b each)
 by_within shapes.Tagged f b some each = omega (arith, some tt, most_within 3 f b each)
@@ -93,7 +93,7 @@ by_some shapes.Led f = omega arith
 by_some _ f = omega arith
 
 -- a part is less deep than its type
-part_less : (f : ℕ → ℕ) (node : Node) (k : ℕ) → HasInner (shape_of node) k
+part_less : (f : ℕ → ℕ) (node : Node) (k : ℕ) → HasSmallerPart (shape_of node) k
     → f (type_of (part_at node k)) < depth_by (shape_of node) (λ i. f (type_of (part_at node i)))
 part_less f (nodes.members parts) k has =
     omega (
@@ -128,8 +128,8 @@ part_less f _ k has = absurd has
 
 -- ---- the depth of a tree
 
-pub depth_grown : (h : Room) (tree : ℕ → Ty) (node : Node) → IsPlain node
-    → depth (grow h tree node) ≡ depth_by (shape_of node)
+pub depth_grown : (h : PartLimits) (tree : ℕ → Ty) (node : Node) → IsBeforeVersion3 node
+    → depth (tree_of_node h tree node) ≡ depth_by (shape_of node)
     (λ i. depth (tree (type_of (part_at node i))))
 unfolding depth
 depth_grown h tree (nodes.members parts) plain =
@@ -149,50 +149,53 @@ depth_grown h tree _ plain = refl
 
 -- a node that isn't an any, a TypeCode or a recursive sequence, whose trees differ with the table
 -- or the room
-abbrev pub IsSteady : Node → Type 0
-IsSteady (nodes.any code) = ⊥
-IsSteady (nodes.recursive bound element) = ⊥
-IsSteady (nodes.typecode wide kind cases) = ⊥
-IsSteady node = Unit {0}
+abbrev pub HasNoAnyOrRecursion : (node : Node) → Type 0
+HasNoAnyOrRecursion (nodes.any code) = ⊥
+HasNoAnyOrRecursion (nodes.recursive bound element) = ⊥
+HasNoAnyOrRecursion (nodes.typecode wide kind cases) = ⊥
+HasNoAnyOrRecursion node = Unit {0}
 
-pub plain_steady : (node : Node) → IsPlain node → IsSteady node
+pub plain_steady : (node : Node) → IsBeforeVersion3 node → HasNoAnyOrRecursion node
 plain_steady (nodes.any code) plain = absurd plain
 plain_steady (nodes.recursive bound element) plain = absurd plain
 plain_steady (nodes.typecode wide kind cases) plain = absurd plain
 plain_steady _ plain = tt
 
 -- such a node is the same in any room
-pub steady_in : (room : ℕ) (node : Node) → IsSteady node → in_room room node ≡ node
+pub steady_in : (room : ℕ) (node : Node) → HasNoAnyOrRecursion node → node_in_room room node ≡ node
 steady_in room (nodes.typecode wide kind cases) steady = absurd steady
 steady_in room _ steady = refl
 
-pub plain_in : (room : ℕ) (node : Node) → IsPlain node → in_room room node ≡ node
+pub plain_in : (room : ℕ) (node : Node) → IsBeforeVersion3 node → node_in_room room node ≡ node
 plain_in room node plain = steady_in room node (plain_steady node plain)
 
-plain_by : (types : List Node) (i : ℕ) → ArePlain types → (i < length types) ⊎ (length types ≤ i)
-    → IsPlain (node_in types i)
+plain_by : (types : List Node) (i : ℕ) → AreBeforeVersion3 types → (i < length types)
+    ⊎ (length types ≤ i)
+    → IsBeforeVersion3 (node_in types i)
 plain_by types i are (inl lt) = are i lt
 plain_by types i are (inr le) =
-    subst IsPlain (sym (get_or_past types i (nodes.prim Octet) le)) tt
+    subst IsBeforeVersion3 (sym (get_or_past types i (nodes.prim Octet) le)) tt
 
-pub plain_node : (types : List Node) (i : ℕ) → ArePlain types → IsPlain (node_in types i)
+pub plain_node : (types : List Node) (i : ℕ) → AreBeforeVersion3 types → IsBeforeVersion3
+    (node_in types i)
 plain_node types i are = plain_by types i are (cases_lt i (length types))
 
 -- a tree without anys is as deep as its type, counted down to the depth of its room
-pub tree_depth : (t : Table) (room i : ℕ) → ArePlain t.types
+pub tree_depth : (t : Table) (room i : ℕ) → AreBeforeVersion3 t.types
     → depth (tree_at t room i) ≡ depth_at t.types (suc room) i
 unfolding tree_at depth_at depth
 tree_depth t zero i are =
     let node = node_at t i in
     let plain = plain_node t.types i are in
-    ap (λ n. depth (grow (room_of t 0) (λ k. octet_type) n)) (plain_in 0 node plain)
-    ∙ depth_grown (room_of t 0) (λ k. octet_type) node plain
+    ap (λ n. depth (tree_of_node (limits_in_room t 0) (λ k. octet_type) n)) (plain_in 0 node plain)
+    ∙ depth_grown (limits_in_room t 0) (λ k. octet_type) node plain
     ∙ by_same (shape_of node) _ _ (λ k has. refl)
 tree_depth t (suc room) i are =
     let node = node_at t i in
     let plain = plain_node t.types i are in
-    ap (λ n. depth (grow (room_of t room) (tree_at t room) n)) (plain_in room node plain)
-    ∙ depth_grown (room_of t room) (tree_at t room) node plain
+    ap (λ n. depth (tree_of_node (limits_in_room t room) (tree_at t room) n))
+    (plain_in room node plain)
+    ∙ depth_grown (limits_in_room t room) (tree_at t room) node plain
     ∙ by_same (shape_of node) _ _
     (λ k has. tree_depth t room (type_of (part_at node k)) are)
 
@@ -212,7 +215,8 @@ deeper types (suc a) (suc b) i le = by_more (shape_of (node_in types i)) _ _
     (λ k has. deeper types a b (type_of (part_at (node_in types i) k)) (omega arith))
 
 -- no tree without anys is deeper than its type
-pub depth_tree : (t : Table) (i : ℕ) → ArePlain t.types → depth (tree t i) ≤ depth_in t.types i
+pub depth_tree : (t : Table) (i : ℕ) → AreBeforeVersion3 t.types → depth
+    (tree t i) ≤ depth_in t.types i
 depth_tree t i are =
     omega (arith, tree_depth t 24 i are, deeper t.types 25 (i + 25) i (omega arith))
 
@@ -224,7 +228,7 @@ depth_within types i lt = most_above (length types) (depth_in types) i lt
 
 -- ---- types that are well formed
 
-abbrev pub FormedBelow : List Node → ℕ → Type 0
+abbrev pub FormedBelow : (types : List Node) (n : ℕ) → Type 0
 FormedBelow types n = (i : ℕ) → i < n → IsFormed types i (node_in types i)
 
 -- a depth depends on the types up to its own alone, and it is counted to the end
@@ -255,7 +259,7 @@ depth_parts types i are lt =
 
 -- a part is less deep than its type
 pub part_shallower : (types : List Node) (i k : ℕ) → AreFormed types → i < length types
-    → HasInner (shape_of (node_in types i)) k
+    → HasSmallerPart (shape_of (node_in types i)) k
     → part_depth types (node_in types i) k < depth_in types i
 part_shallower types i k are lt has =
     omega (arith, depth_parts types i are lt, part_less (depth_in types) (node_in types i) k has)

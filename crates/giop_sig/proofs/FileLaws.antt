@@ -7,22 +7,22 @@ use Rattle.std.proofs.lemmas.Slice.Eq.{bytes_eq-Decides}
 use Rattle.giop_tokens.specs.declared.fault.TokenError.{TokenError}
 use Rattle.giop_tokens.specs.declared.fault.SigFaultKind.TheVariants as kinds
 use Rattle.giop_tokens.specs.declared.marks.Mark.TheVariants as marks
-use Rattle.giop_tokens.specs.Tokens.{Token, word, number, repository, mark, left_of, next, AreTokens}
+use Rattle.giop_tokens.specs.Tokens.{Token, word, number, repository, mark, octets_left_at_token, next, AreTokens}
 use Rattle.giop_tokens.specs.Reading.{◌>>=◌}
 use Rattle.giop_tokens.specs.Readers.{misplaced, word_at, mark_at, is_end, end_at}
-use Rattle.giop_tokens.proofs.ReaderLaws.{bind_ok, ok_is, Takes, word_again, number_again, mark_again, keyword_again, end_again, end_other, word_takes, number_takes, mark_takes, keyword_takes}
+use Rattle.giop_tokens.proofs.ReaderLaws.{bind_ok, ok_is, TakesToken, word_again, number_again, mark_again, keyword_again, end_again, end_other, word_takes, number_takes, mark_takes, keyword_takes}
 use Rattle.giop_sig.specs.Grammar.{TypeExpr, Item, UnionCase, spell_type, spell_names, spell_items, spell_cases, spell_params, spell_return, spell_interfaces, spell_identity, Declaration, Enumeration, Structure, DeclaredUnion, Announcement, DeclaredException, Call, KeyOf, spell, spell_all, type_word, SignatureFile, is_version, spell_file}
 use Rattle.giop_sig.specs.declared.announced.TypeWord.TheVariants as type_words
-use Rattle.giop_sig.specs.Scopes.{is_third, Scope, first_scope, declare, last_scope, scope_after, settled, targets}
+use Rattle.giop_sig.specs.Scopes.{is_version_3, Scope, first_scope, declare, last_scope, scope_after, settled, types_of_announced}
 use Rattle.giop_sig.specs.Trees.{depth_of}
-use Rattle.giop_sig.specs.Validity.{FaultKind, AllAreDeclared, OfDeclaration, HasItsWords, Each, SpellsUpTo, first_undeclared}
-use Rattle.giop_sig.specs.ItemReading.{Declared, structure_after, structure_at, exception_at}
+use Rattle.giop_sig.specs.Validity.{FaultKind, AllAreDeclared, OfDeclaration, UsesAllowedWords, EachInItsScope, SpellsUpTo, first_undeclared}
+use Rattle.giop_sig.specs.ItemReading.{DeclarationRead, structure_after, structure_at, exception_at}
 use Rattle.giop_sig.specs.CallReading.{operation_at, key_at}
 use Rattle.giop_sig.specs.EnumReading.{enumeration_at}
 use Rattle.giop_sig.specs.UnionReading.{union_after, union_at}
 use Rattle.giop_sig.specs.Repeats.{in_steps}
-use Rattle.giop_sig.specs.FileReading.{announcements, declaration_at, declaration_or_end, DeclarationsRead, declarations_step, misplaced_after, lefts_after, settled_at, settled_unless, version_at, head_at, file_at}
-use Rattle.giop_sig.proofs.ReadingLaws.{Breaks, Out}
+use Rattle.giop_sig.specs.FileReading.{announcement_count, declaration_at, declaration_or_end, DeclarationsRead, declarations_step, misplaced_after, with_announced_left, resolved_if_declared, resolved_unless_undeclared, version_at, version_line_at, file_at}
+use Rattle.giop_sig.proofs.ReadingLaws.{BreaksRuleOf, IsMadeOrBreaksRule}
 use Rattle.giop_sig.proofs.AnnouncedLaws.{announced_reads}
 use Rattle.giop_sig.proofs.ItemTaken.{TakenDeclaration}
 use Rattle.giop_sig.proofs.SettleLaws.{deepest_settled}
@@ -35,13 +35,15 @@ use Rattle.giop_sig.proofs.Builtins.{first_shallow}
 
 -- ---- a declaration
 
-abbrev spell_raise : List ℕ → List ℕ → List Item → List Token → List Token
+abbrev spell_raise : (one other : List ℕ) (items : List Item) (more : List Token) → List Token
 spell_raise n r is more =
     word n ∷ repository r ∷ mark marks.OpenBrace ∷ spell_items is (mark marks.Semicolon ∷ more)
 
-abbrev pub DeclarationOut : Scope → Declaration → List Token → Result Declared TokenError → Type 0
-DeclarationOut s d more r =
-    Out {X = Declared} (λ rest. (declare s d, rest)) (λ k. OfDeclaration k s d)
+abbrev pub IsDeclaredOrRefusal : (scope : Scope) (declaration : Declaration) (more : List Token)
+    (r : Result DeclarationRead TokenError) → Type 0
+IsDeclaredOrRefusal s d more r =
+    IsMadeOrBreaksRule {X = DeclarationRead} (λ rest. (declare s d, rest)) (λ k. OfDeclaration k s
+    d)
     (declare s d).table.types more r
 
 -- what reading gives for a union
@@ -54,18 +56,19 @@ UnionReads =
     ∷ mark marks.OpenParenthesis
     ∷ spell_type e (mark marks.CloseParenthesis ∷ mark marks.OpenBrace
     ∷ spell_cases cs (mark marks.Semicolon ∷ more))))
-    → DeclarationOut s (DeclaredUnion n id e cs) more (union_at s text)
+    → IsDeclaredOrRefusal s (DeclaredUnion n id e cs) more (union_at s text)
 
 abbrev pub UnionTakes : Type 0
 UnionTakes =
-    (s : Scope) (whole text : List ℕ) (x : Declared) → Takes whole (word (codes "union")) text
+    (s : Scope) (whole text : List ℕ) (x : DeclarationRead) → TakesToken whole
+    (word (codes "union")) text
     → union_at s text ≡ Ok x → TakenDeclaration s whole x
 
 -- an announcement, after its first word
 struct_announced : (s : Scope) (n text : List ℕ) (more : List Token)
     → OfDeclaration kinds.Syntax s (Announcement type_words.Struct n)
     → AreTokens text (word n ∷ mark marks.Semicolon ∷ more)
-    → DeclarationOut s (Announcement type_words.Struct n) more (structure_at s text)
+    → IsDeclaredOrRefusal s (Announcement type_words.Struct n) more (structure_at s text)
 unfolding structure_at
 struct_announced s n text more free h =
     announced_reads s type_words.Struct n text more (structure_after s text) free h
@@ -73,19 +76,19 @@ struct_announced s n text more free h =
 union_announced : (s : Scope) (n text : List ℕ) (more : List Token)
     → OfDeclaration kinds.Syntax s (Announcement type_words.Union n)
     → AreTokens text (word n ∷ mark marks.Semicolon ∷ more)
-    → DeclarationOut s (Announcement type_words.Union n) more (union_at s text)
+    → IsDeclaredOrRefusal s (Announcement type_words.Union n) more (union_at s text)
 unfolding union_at
 union_announced s n text more free h =
     announced_reads s type_words.Union n text more (union_after s text) free h
 
 key_third : (s : Scope) (key id : List ℕ) → OfDeclaration kinds.Syntax s (KeyOf key id)
-    → is_third s.names ≡ true
+    → is_version_3 s.names ≡ true
 unfolding OfDeclaration
 key_third s key id free = free.0.0
 
 declaration_reads : UnionReads → (d : Declaration) (s : Scope) (text : List ℕ) (more : List Token)
     → OfDeclaration kinds.Syntax s d → AreTokens text (spell d more)
-    → DeclarationOut s d more (declaration_at s text)
+    → IsDeclaredOrRefusal s d more (declaration_at s text)
 unfolding declaration_at
 declaration_reads union (Enumeration n id names) s text more free h =
     rw (word_again text (codes "enum") (word n ∷ spell_identity id (mark marks.OpenBrace
@@ -122,8 +125,8 @@ declaration_reads union (KeyOf key id) s text more free h =
     )
     (key_reads s key id h.0 more free h.2)
 
-enumeration_taken : (s : Scope) (whole text : List ℕ) (x : Declared)
-    → Takes whole (word (codes "enum")) text → TakenEnumeration s text x
+enumeration_taken : (s : Scope) (whole text : List ℕ) (x : DeclarationRead)
+    → TakesToken whole (word (codes "enum")) text → TakenEnumeration s text x
     → TakenDeclaration s whole x
 enumeration_taken s whole text x before t = record {
   declaration = Enumeration t.name t.id t.names;
@@ -137,17 +140,18 @@ enumeration_taken s whole text x before t = record {
   shallow = t.shallow;
 }
 
-after_by : UnionTakes → (s : Scope) (text w rest : List ℕ) (x : Declared) (a b c d e g f : Bool)
+after_by : UnionTakes → (s : Scope) (text w rest : List ℕ) (x : DeclarationRead)
+    (a b c d e g f : Bool)
     → bytes_eq w (codes "enum") ≡ a → bytes_eq w (codes "struct") ≡ b
     → bytes_eq w (codes "union") ≡ c → bytes_eq w (codes "exception") ≡ d
-    → bytes_eq w (codes "operation") ≡ e → is_third s.names ≡ g → bytes_eq w (codes "key") ≡ f
-    → Takes text (word w) rest → cond a (enumeration_at s rest)
+    → bytes_eq w (codes "operation") ≡ e → is_version_3 s.names ≡ g → bytes_eq w (codes "key") ≡ f
+    → TakesToken text (word w) rest → cond a (enumeration_at s rest)
     (cond b (structure_at s rest)
     (cond c (union_at s rest) (cond d (exception_at s rest)
     (cond e (operation_at s rest)
     (cond (g && f) (key_at s rest) (Err (misplaced text))))))) ≡ Ok x → TakenDeclaration s text x
 after_by union s text w rest x true b c d e g f p q r u v y z t h =
-    enumeration_taken s text rest x (subst (λ v. Takes text (word v) rest)
+    enumeration_taken s text rest x (subst (λ v. TakesToken text (word v) rest)
     ((bytes_eq-Decides w (codes "enum")).0 p) t) (enumeration_takes s rest x h)
 after_by union s text w rest x false true c d e g f p q r u v y z t h = search (
   arith,
@@ -167,13 +171,13 @@ after_by union s text w rest x false false false false true g f p q r u v y z t 
   bytes_eq-Decides,
 )
 after_by union s text w rest x false false false false false true true p q r u v y z t h =
-    key_takes s text rest x y (subst (λ v. Takes text (word v) rest)
+    key_takes s text rest x y (subst (λ v. TakesToken text (word v) rest)
     ((bytes_eq-Decides w (codes "key")).0 z) t) h
 after_by union s text w rest x false false false false false true false p q r u v y z t h =
     absurd cc
 after_by union s text w rest x false false false false false false f p q r u v y z t h = absurd cc
 
-declaration_takes : UnionTakes → (s : Scope) (text : List ℕ) (x : Declared)
+declaration_takes : UnionTakes → (s : Scope) (text : List ℕ) (x : DeclarationRead)
     → declaration_at s text ≡ Ok x → TakenDeclaration s text x
 unfolding declaration_at
 declaration_takes union s text x e = search (arith, bind_ok, after_by, word_takes)
@@ -186,7 +190,7 @@ pub record BrokenIn (k : FaultKind) (s : Scope) (ds : List Declaration) : Type 0
   pub broken : Declaration
   pub after : List Declaration
   pub all : ds ≡ before ++ broken ∷ after
-  pub breaks : Breaks k (λ k. OfDeclaration k (scope_after s before) broken)
+  pub breaks : BreaksRuleOf k (λ k. OfDeclaration k (scope_after s before) broken)
       (declare (scope_after s before) broken).table.types
 
 broken_later : (k : FaultKind) (s : Scope) (d : Declaration) (ds : List Declaration)
@@ -201,40 +205,44 @@ broken_later k s d ds b = record {
 }
 
 -- what reading gives for declarations
-abbrev pub FileOut : Scope → List Declaration → Result Scope TokenError → Type 0
-FileOut s ds r =
+abbrev pub IsScopeOrRefusal : (scope : Scope) (declarations : List Declaration)
+    (result : Result Scope TokenError)
+    → Type 0
+IsScopeOrRefusal s ds r =
     MatchResult r (λ t. (t ≡ scope_after s ds)
-    × ((k : FaultKind) → Each (λ s d. OfDeclaration k s d) s ds)) (λ e. BrokenIn e.kind s ds)
+    × ((k : FaultKind) → EachInItsScope (λ s d. OfDeclaration k s d) s ds))
+    (λ e. BrokenIn e.kind s ds)
 
-abbrev scope_of : DeclarationsRead → Result Scope TokenError
+abbrev scope_of : (declarations : DeclarationsRead) → Result Scope TokenError
 scope_of d = Ok d.0
 
-abbrev then_declarations : ℕ → Bool × DeclarationsRead → Result DeclarationsRead TokenError
+abbrev then_declarations : (n : ℕ) (x : Bool × DeclarationsRead) →
+    Result DeclarationsRead TokenError
 then_declarations n x = cond x.0 (Ok x.1) (in_steps declarations_step misplaced_after n x.1)
 
 file_more : (s : Scope) (d : Declaration) (ds : List Declaration)
     (r : Result DeclarationsRead TokenError)
-    → ((k : FaultKind) → OfDeclaration k s d) → FileOut (declare s d) ds (r >>= scope_of)
-    → FileOut s (d ∷ ds) (r >>= scope_of)
-unfolding Each
+    → ((k : FaultKind) → OfDeclaration k s d) → IsScopeOrRefusal (declare s d) ds (r >>= scope_of)
+    → IsScopeOrRefusal s (d ∷ ds) (r >>= scope_of)
+unfolding EachInItsScope
 file_more s d ds (Ok t) keeps o = (o.0, λ k. (keeps k, o.1 k))
 file_more s d ds (Err e) keeps o = broken_later e.kind s d ds o
 
 -- a declaration, of which it is kept where it announces a name, and then the others
 file_on : (n : ℕ) (s : Scope) (d : Declaration) (ds : List Declaration)
-    (left : Declared → Result (List ℕ) TokenError)
-    → ((x : Declared) → (lefts : List ℕ) × (left x ≡ Ok lefts))
-    → (r : Result Declared TokenError) → DeclarationOut s d (spell_all ds) r
+    (left : DeclarationRead → Result (List ℕ) TokenError)
+    → ((x : DeclarationRead) → (lefts : List ℕ) × (left x ≡ Ok lefts))
+    → (r : Result DeclarationRead TokenError) → IsDeclaredOrRefusal s d (spell_all ds) r
     → ((lefts rest : List ℕ) → AreTokens rest (spell_all ds)
-    → FileOut (declare s d) ds
+    → IsScopeOrRefusal (declare s d) ds
     (in_steps declarations_step misplaced_after n (declare s d, lefts, rest) >>= scope_of))
-    → FileOut s (d ∷ ds)
+    → IsScopeOrRefusal s (d ∷ ds)
     (((r >>= λ x. left x >>= λ lefts. Ok (false, (x.0, lefts, x.1)))
     >>= then_declarations n) >>= scope_of)
 file_on n s d ds index placed (Ok x) o on =
     let g = o.out in
     let p = placed x in
-    rw (p.1) (subst (λ (y : Declared). FileOut s (d ∷ ds)
+    rw (p.1) (subst (λ (y : DeclarationRead). IsScopeOrRefusal s (d ∷ ds)
     (in_steps declarations_step misplaced_after n (y.0, p.0, y.1) >>= scope_of)) (sym g.is)
     (file_more s d ds (in_steps declarations_step misplaced_after n (declare s d, p.0, g.rest))
     g.keeps (on p.0 g.rest g.tokens)))
@@ -278,10 +286,11 @@ first_word (KeyOf key id) text more h =
 
 -- what is left from a declaration's name on is found
 left_reads : (before after : ℕ) (lefts text : List ℕ) (x : List ℕ × List ℕ)
-    → word_at text ≡ Ok x → (more : List ℕ) × (lefts_after before after lefts text ≡ Ok more)
-unfolding lefts_after
+    → word_at text ≡ Ok x → (more : List ℕ) × (with_announced_left before after lefts text
+    ≡ Ok more)
+unfolding with_announced_left
 left_reads before after lefts text x e =
-    (cond (ltb before after) (lefts ++ left_of x.1 ∷ []) lefts, rw e refl)
+    (cond (ltb before after) (lefts ++ octets_left_at_token x.1 ∷ []) lefts, rw e refl)
 
 not_over : (d : Declaration) (text : List ℕ) (more : List Token)
     → AreTokens text (spell d more) → end_at text ≡ Ok false
@@ -295,9 +304,10 @@ not_over (KeyOf key id) text more h = search (arith, end_other)
 
 declarations_read : UnionReads → (ds : List Declaration) (n : ℕ) (s : Scope)
     (lefts text : List ℕ)
-    → length ds < n → Each HasItsWords s ds → AreTokens text (spell_all ds)
-    → FileOut s ds (in_steps declarations_step misplaced_after n (s, lefts, text) >>= scope_of)
-unfolding Each in_steps declarations_step
+    → length ds < n → EachInItsScope UsesAllowedWords s ds → AreTokens text (spell_all ds)
+    → IsScopeOrRefusal s ds (in_steps declarations_step misplaced_after n
+    (s, lefts, text) >>= scope_of)
+unfolding EachInItsScope in_steps declarations_step
 declarations_read union [] zero s lefts text lt free h = absurd (omega arith)
 declarations_read union (d ∷ ds) zero s lefts text lt free h = absurd (omega arith)
 declarations_read union [] (suc n) s lefts text lt free h =
@@ -306,8 +316,9 @@ declarations_read union (d ∷ ds) (suc n) s lefts text lt free h =
     let w = first_word d text (spell_all ds) h in
     rw (not_over d text (spell_all ds) h)
     (file_on n s d ds
-    (λ (x : Declared). lefts_after (announcements s) (announcements x.0) lefts text)
-    (λ x. left_reads (announcements s) (announcements x.0) lefts text w.0 w.1)
+    (λ (x : DeclarationRead). with_announced_left (announcement_count s)
+    (announcement_count x.0) lefts text)
+    (λ x. left_reads (announcement_count s) (announcement_count x.0) lefts text w.0 w.1)
     (declaration_at s text)
     (declaration_reads union d s text (spell_all ds) free.0 h)
     (λ more rest m.
@@ -326,43 +337,44 @@ pub record WholeFile (file : SignatureFile) (t : Scope) : Type 0 where
   pub is : t ≡ settled (last_scope file)
   pub declared : AllAreDeclared file
   pub keeps : (k : FaultKind)
-      → Each (λ s d. OfDeclaration k s d) (first_scope file.version) file.declarations
+      → EachInItsScope (λ s d. OfDeclaration k s d) (first_scope file.version) file.declarations
 
 -- a refusal of a declaration, or of a name that is announced but not declared
-abbrev pub RefusedFile : SignatureFile → TokenError → Type 0
+abbrev pub RefusedFile : (file : SignatureFile) (refusal : TokenError) → Type 0
 RefusedFile file e =
     BrokenIn e.kind (first_scope file.version) file.declarations
     ⊎ ((e.kind ≡ kinds.UnknownType) × (AllAreDeclared file → ⊥))
 
 -- what reading gives for a file
-abbrev pub WholeOut : SignatureFile → Result Scope TokenError → Type 0
-WholeOut file r = MatchResult r (WholeFile file) (RefusedFile file)
+abbrev pub IsWholeFileOrRefusal : (file : SignatureFile) (result : Result Scope TokenError) → Type 0
+IsWholeFileOrRefusal file r = MatchResult r (WholeFile file) (RefusedFile file)
 
 some_not_none : {X : Type 0} (x : X) → Some x ≡ None → ⊥
 some_not_none x e = absurd cc
 
 settled_out : (file : SignatureFile) (lefts : List ℕ) (o : Option ℕ)
     → first_undeclared (last_scope file).names ≡ o
-    → ((k : FaultKind) → Each (λ s d. OfDeclaration k s d) (first_scope file.version)
+    → ((k : FaultKind) → EachInItsScope (λ s d. OfDeclaration k s d) (first_scope file.version)
     file.declarations)
-    → WholeOut file (settled_unless (last_scope file) lefts o)
+    → IsWholeFileOrRefusal file (resolved_unless_undeclared (last_scope file) lefts o)
 settled_out file lefts None e keeps = record { is = refl; declared = e; keeps = keeps }
 settled_out file lefts (Some i) e keeps =
     inr (refl, λ all. some_not_none i (sym e ∙ all))
 
 whole_by : (file : SignatureFile) (r : Result DeclarationsRead TokenError)
-    → FileOut (first_scope file.version) file.declarations (r >>= scope_of)
-    → WholeOut file (r >>= λ d. settled_at d.0 d.1)
-unfolding settled_at
+    → IsScopeOrRefusal (first_scope file.version) file.declarations (r >>= scope_of)
+    → IsWholeFileOrRefusal file (r >>= λ d. resolved_if_declared d.0 d.1)
+unfolding resolved_if_declared
 whole_by file (Ok d) o =
-    subst (λ (s : Scope). WholeOut file (settled_unless s d.1 (first_undeclared s.names)))
+    subst (λ (s : Scope). IsWholeFileOrRefusal file
+    (resolved_unless_undeclared s d.1 (first_undeclared s.names)))
     (sym o.0)
     (settled_out file d.1 (first_undeclared (last_scope file).names) refl o.1)
 whole_by file (Err e) o = inl o
 
 pub file_reads : {latest : ℕ} → UnionReads → (text : List ℕ) (file : SignatureFile)
-    → SpellsUpTo latest text file → WholeOut file (file_at latest text)
-unfolding file_at head_at
+    → SpellsUpTo latest text file → IsWholeFileOrRefusal file (file_at latest text)
+unfolding file_at version_line_at
 file_reads {latest = latest} union text file spells =
     let h = spells.tokens in
     let ds = file.declarations in
@@ -381,9 +393,9 @@ file_reads {latest = latest} union text file spells =
 
 -- ---- what was read
 
-pub record TakenAll (s : Scope) (text : List ℕ) : Type 0 where
+pub record TakenDeclarations (s : Scope) (text : List ℕ) : Type 0 where
   pub declarations : List Declaration
-  pub words : Each HasItsWords s declarations
+  pub words : EachInItsScope UsesAllowedWords s declarations
   pub tokens : AreTokens text (spell_all declarations)
 
 end_none : (text : List ℕ) (o : Option Token) (rest : List ℕ) → next text ≡ Ok (o, rest)
@@ -397,15 +409,16 @@ end_from text e = search (arith, bind_ok, end_none, ok_is)
 
 -- the scope after a declaration that was read is that of the declaration that the text spells
 declared_is : UnionReads
-    → (s : Scope) (d : Declaration) (text : List ℕ) (more : List Token) (x : Declared)
-    → HasItsWords s d → AreTokens text (spell d more) → declaration_at s text ≡ Ok x
+    → (s : Scope) (d : Declaration) (text : List ℕ) (more : List Token) (x : DeclarationRead)
+    → UsesAllowedWords s d → AreTokens text (spell d more) → declaration_at s text ≡ Ok x
     → x.0 ≡ declare s d
 declared_is union s d text more x words h e = search (arith, declaration_reads)
 
 -- what was read, with what is left from the declaration's name on if it announced that
-abbrev one_on : Scope → List ℕ → List ℕ → Declared → Result (Bool × DeclarationsRead) TokenError
-one_on s lefts text next =
-    lefts_after (announcements s) (announcements next.0) lefts text
+abbrev with_declaration_noted : (scope : Scope) (lefts text : List ℕ) (next : DeclarationRead) →
+    Result (Bool × DeclarationsRead) TokenError
+with_declaration_noted s lefts text next =
+    with_announced_left (announcement_count s) (announcement_count next.0) lefts text
     >>= λ more. Ok (false, (next.0, more, next.1))
 
 over_by : (n : ℕ) (s : Scope) (lefts text : List ℕ) (v : Bool) (x : Bool × DeclarationsRead)
@@ -413,14 +426,16 @@ over_by : (n : ℕ) (s : Scope) (lefts text : List ℕ) (v : Bool) (x : Bool × 
     → end_at text ≡ Ok v → declaration_or_end (s, lefts, text) v ≡ Ok x
     → then_declarations n x ≡ Ok t → UnionReads → UnionTakes
     → ((s : Scope) (lefts text : List ℕ)
-    → in_steps declarations_step misplaced_after n (s, lefts, text) ≡ Ok t → TakenAll s text)
-    → TakenAll s text
-unfolding Each
+    → in_steps declarations_step misplaced_after n (s, lefts, text) ≡ Ok t
+    → TakenDeclarations s text)
+    → TakenDeclarations s text
+unfolding EachInItsScope
 over_by n s lefts text true x t over e run reads takes on =
     record { declarations = []; words = tt; tokens = end_from text over }
 over_by n s lefts text false x t over e run reads takes on =
-    let d = bind_ok (declaration_at s text) (one_on s lefts text) x e in
-    let p = bind_ok (lefts_after (announcements s) (announcements (d.0).0) lefts text)
+    let d = bind_ok (declaration_at s text) (with_declaration_noted s lefts text) x e in
+    let p = bind_ok (with_announced_left (announcement_count s)
+    (announcement_count (d.0).0) lefts text)
     (λ more. Ok (false, ((d.0).0, more, (d.0).1))) x d.2 in
     let k = declaration_takes takes s text d.0 d.1 in
     let rest = on (d.0).0 p.0 (d.0).1
@@ -431,7 +446,7 @@ over_by n s lefts text false x t over e run reads takes on =
       declarations = k.declaration ∷ rest.declarations;
       words = (
         k.took.free,
-        subst (λ t. Each HasItsWords t rest.declarations)
+        subst (λ t. EachInItsScope UsesAllowedWords t rest.declarations)
             (declared_is reads s k.declaration text more d.0 k.took.free tokens d.1) rest.words,
       );
       tokens = tokens;
@@ -439,7 +454,8 @@ over_by n s lefts text false x t over e run reads takes on =
 
 declarations_take : UnionReads → UnionTakes → (n : ℕ) (s : Scope) (lefts text : List ℕ)
     (t : DeclarationsRead)
-    → in_steps declarations_step misplaced_after n (s, lefts, text) ≡ Ok t → TakenAll s text
+    → in_steps declarations_step misplaced_after n (s, lefts, text) ≡ Ok t
+    → TakenDeclarations s text
 unfolding in_steps declarations_step
 declarations_take reads takes zero s lefts text t e = absurd cc
 declarations_take reads takes (suc n) s lefts text t e =
@@ -464,8 +480,9 @@ shallow_by takes n s lefts text true x t e run le on =
     (ap (then_declarations n) first ∙ run) in
     subst (λ (d : DeclarationsRead). depth_of (d.0).table.types ≤ 24) last le
 shallow_by takes n s lefts text false x t e run le on =
-    let d = bind_ok (declaration_at s text) (one_on s lefts text) x e in
-    let p = bind_ok (lefts_after (announcements s) (announcements (d.0).0) lefts text)
+    let d = bind_ok (declaration_at s text) (with_declaration_noted s lefts text) x e in
+    let p = bind_ok (with_announced_left (announcement_count s)
+    (announcement_count (d.0).0) lefts text)
     (λ more. Ok (false, ((d.0).0, more, (d.0).1))) x d.2 in
     on (d.0).0 p.0 (d.0).1
     (ap (then_declarations n) (ok_is (false, ((d.0).0, p.0, (d.0).1)) x p.2) ∙ run)
@@ -485,13 +502,13 @@ declarations_shallow takes (suc n) s lefts text t e le =
 
 -- the scope at the end is that of the declarations, settled
 settled_by : (s : Scope) (lefts : List ℕ) (o : Option ℕ) (t : Scope)
-    → settled_unless s lefts o ≡ Ok t → settled s ≡ t
+    → resolved_unless_undeclared s lefts o ≡ Ok t → settled s ≡ t
 settled_by s lefts None t e = ok_is (settled s) t e
 settled_by s lefts (Some i) t e = absurd cc
 
-settled_takes : (s : Scope) (lefts : List ℕ) (t : Scope) → settled_at s lefts ≡ Ok t
+settled_takes : (s : Scope) (lefts : List ℕ) (t : Scope) → resolved_if_declared s lefts ≡ Ok t
     → settled s ≡ t
-unfolding settled_at
+unfolding resolved_if_declared
 settled_takes s lefts t e = settled_by s lefts (first_undeclared s.names) t e
 
 pub file_shallow : (latest : ℕ) → UnionTakes → (text : List ℕ) (t : Scope)
@@ -500,11 +517,12 @@ unfolding file_at
 file_shallow latest takes text t e =
     let read : ℕ × List ℕ → Result DeclarationsRead TokenError =
     λ h. in_steps declarations_step misplaced_after (length text) (first_scope h.0, [], h.1) in
-    let h = bind_ok (head_at latest text) (λ h. read h >>= λ d. settled_at d.0 d.1) t e in
-    let d = bind_ok (read h.0) (λ d. settled_at d.0 d.1) t h.2 in
+    let h = bind_ok (version_line_at latest text)
+    (λ h. read h >>= λ d. resolved_if_declared d.0 d.1) t e in
+    let d = bind_ok (read h.0) (λ d. resolved_if_declared d.0 d.1) t h.2 in
     let less = declarations_shallow takes (length text) (first_scope (h.0).0) [] (h.0).1 d.0 d.1
     (first_shallow (h.0).0) in
-    let same = deepest_settled (targets ((d.0).0).names) ((d.0).0).table.types in
+    let same = deepest_settled (types_of_announced ((d.0).0).names) ((d.0).0).table.types in
     subst (λ (s : Scope). depth_of s.table.types ≤ 24)
     (settled_takes (d.0).0 (d.0).1 t d.2) (omega (arith, less, same))
 
@@ -522,13 +540,13 @@ version_by latest text n x true h e = (h, ok_is n x e)
 version_by latest text n x false h e = absurd cc
 
 version_takes : (latest : ℕ) (text : List ℕ) (x : ℕ × List ℕ) → version_at latest text ≡ Ok x
-    → (is_version latest x.0 ≡ true) × Takes text (number x.0) x.1
+    → (is_version latest x.0 ≡ true) × TakesToken text (number x.0) x.1
 unfolding version_at
 version_takes latest text x e = search (arith, bind_ok, version_by latest, number_takes)
 
-head_takes : (latest : ℕ) (text : List ℕ) (x : ℕ × List ℕ) → head_at latest text ≡ Ok x
+head_takes : (latest : ℕ) (text : List ℕ) (x : ℕ × List ℕ) → version_line_at latest text ≡ Ok x
     → TakenHead latest text x
-unfolding head_at
+unfolding version_line_at
 head_takes latest text x e =
     let k = bind_ok _ _ x e in
     let v = bind_ok {A = ℕ × List ℕ} _ _ x k.2 in

@@ -4,21 +4,21 @@ use Rattle.std.proofs.lemmas.Bool.{eqb-true, leb-true}
 use Rattle.giop_tokens.specs.declared.fault.TokenError.{TokenError}
 use Rattle.giop_tokens.specs.declared.fault.SigFaultKind.TheVariants as kinds
 use Rattle.giop_sig.specs.Grammar.{Declaration, spell_all, SignatureFile, is_version, spell_file}
-use Rattle.giop_sig.specs.Scopes.{Scope, first_scope, declare, last_scope, scope_after, table, targets}
-use Rattle.giop_sig.specs.Validity.{FaultKind, AllAreDeclared, IsShallow, Each, Rule, IsValid, SpellsUpTo, IsBroken, Refuses}
+use Rattle.giop_sig.specs.Scopes.{Scope, first_scope, declare, last_scope, scope_after, table, types_of_announced}
+use Rattle.giop_sig.specs.Validity.{FaultKind, AllAreDeclared, IsShallow, EachInItsScope, RuleOfKind, IsValid, SpellsUpTo, IsBroken, Refuses}
 use Rattle.giop_sig.specs.FileReading.{file_at}
-use Rattle.giop_sig.proofs.AddTypeLaws.{deepest, size, scope_more}
+use Rattle.giop_sig.proofs.AddTypeLaws.{deepest_in_scope, type_count, scope_more}
 use Rattle.giop_sig.proofs.Solid.{both}
 use Rattle.giop_sig.proofs.TokensFew.{tokens_few}
 use Rattle.giop_sig.proofs.SizeLaws.{types_few, types_fewer}
 use Rattle.giop_sig.specs.AnyTypes.{first_types}
 use Rattle.giop_sig.proofs.Builtins.{first_few, more_by}
-use Rattle.giop_sig.proofs.FileLaws.{UnionReads, UnionTakes, BrokenIn, WholeFile, WholeOut, file_reads, file_takes}
+use Rattle.giop_sig.proofs.FileLaws.{UnionReads, UnionTakes, BrokenIn, WholeFile, IsWholeFileOrRefusal, file_reads, file_takes}
 use Rattle.giop_sig.proofs.SettleLaws.{deepest_settled, size_settled}
 
 each_shallow : (ds : List Declaration) (s : Scope)
-    → deepest (scope_after s ds) ≤ 24 → Each IsShallow s ds
-unfolding Each
+    → deepest_in_scope (scope_after s ds) ≤ 24 → EachInItsScope IsShallow s ds
+unfolding EachInItsScope
 each_shallow [] s le = tt
 each_shallow (d ∷ ds) s le = (
   omega (arith, (scope_more (declare s d) ds).deeper),
@@ -28,19 +28,21 @@ each_shallow (d ∷ ds) s le = (
 -- what was read is the table of a valid file
 pub file_valid : {latest : ℕ} → UnionReads → (text : List ℕ) (t : Scope) (file : SignatureFile)
     → SpellsUpTo latest text file
-    → file_at latest text ≡ Ok t → deepest t ≤ 24 → IsValid file × (t.table ≡ table file)
+    → file_at latest text ≡ Ok t → deepest_in_scope t ≤ 24 → IsValid file × (t.table ≡ table file)
 file_valid union text t file spells e shallow =
     let s = first_scope file.version in
     let ds = file.declarations in
-    let o : WholeFile file t = subst (WholeOut file) e (file_reads union text file spells) in
-    let same = deepest_settled (targets (last_scope file).names) (last_scope file).table.types in (
+    let o : WholeFile file t = subst (IsWholeFileOrRefusal file) e
+    (file_reads union text file spells) in
+    let same = deepest_settled (types_of_announced (last_scope file).names)
+    (last_scope file).table.types in (
       record {
         declared = o.declared;
         known = o.keeps kinds.UnknownType;
         distinct = o.keeps kinds.Duplicate;
         some = o.keeps kinds.Empty;
         labels = o.keeps kinds.Label;
-        shallow = each_shallow ds s (omega (arith, ap deepest o.is, same, shallow));
+        shallow = each_shallow ds s (omega (arith, ap deepest_in_scope o.is, same, shallow));
         within = o.keeps kinds.Limit;
       },
       ap (λ (x : Scope). x.table) o.is,
@@ -64,16 +66,16 @@ first_up_to latest version most is =
 -- a file adds no more types than its text has octets
 pub file_few : (latest : ℕ) → UnionReads → UnionTakes → (text : List ℕ) (t : Scope) → latest ≤ 3
     → length text ≤ 1048576
-    → file_at latest text ≡ Ok t → size t ≤ length (first_types latest) + length text
+    → file_at latest text ≡ Ok t → type_count t ≤ length (first_types latest) + length text
 file_few latest reads takes text t most short e =
     let f = file_takes latest reads takes text t short e in
     let s = first_scope (f.0).version in
     let ds = (f.0).declarations in
-    let o : WholeFile f.0 t = subst (WholeOut f.0) e (file_reads reads text f.0 f.1) in
+    let o : WholeFile f.0 t = subst (IsWholeFileOrRefusal f.0) e (file_reads reads text f.0 f.1) in
     omega (
       arith,
-      ap size o.is,
-      size_settled (targets (last_scope f.0).names) (last_scope f.0).table.types,
+      ap type_count o.is,
+      size_settled (types_of_announced (last_scope f.0).names) (last_scope f.0).table.types,
       tokens_few (spell_file f.0) text (f.1).tokens,
       types_few s ds,
       first_up_to latest (f.0).version most (f.1).version,
@@ -81,14 +83,15 @@ file_few latest reads takes text t most short e =
 
 is_broken : (k : FaultKind) (file : SignatureFile)
     → (b : BrokenIn k (first_scope file.version) file.declarations)
-    → (Rule k (scope_after (first_scope file.version) b.before) b.broken → ⊥) → IsBroken k file
+    → (RuleOfKind k (scope_after (first_scope file.version) b.before) b.broken → ⊥)
+    → IsBroken k file
 is_broken k file b breaks = search (arith)
 
 -- the declarations of a text never make too many types
 pub not_too_many : {latest : ℕ} (text : List ℕ) (file : SignatureFile)
     → SpellsUpTo latest text file
     → (b : BrokenIn kinds.Limit (first_scope file.version) file.declarations)
-    → size (declare (scope_after (first_scope file.version) b.before) b.broken) < 2 ^ 32
+    → type_count (declare (scope_after (first_scope file.version) b.before) b.broken) < 2 ^ 32
 not_too_many text file spells b =
     let s = first_scope file.version in
     let short = spells.short in
@@ -102,9 +105,9 @@ not_too_many text file spells b =
 
 limit_broken : (file : SignatureFile)
     → (b : BrokenIn kinds.Limit (first_scope file.version) file.declarations)
-    → size (declare (scope_after (first_scope file.version) b.before) b.broken) < 2 ^ 32
-    → (Rule kinds.Limit (scope_after (first_scope file.version) b.before) b.broken → ⊥)
-    ⊎ (2 ^ 32 ≤ size (declare (scope_after (first_scope file.version) b.before) b.broken))
+    → type_count (declare (scope_after (first_scope file.version) b.before) b.broken) < 2 ^ 32
+    → (RuleOfKind kinds.Limit (scope_after (first_scope file.version) b.before) b.broken → ⊥)
+    ⊎ (2 ^ 32 ≤ type_count (declare (scope_after (first_scope file.version) b.before) b.broken))
     → IsBroken kinds.Limit file
 limit_broken file b few (inl breaks) = search (arith, is_broken)
 limit_broken file b few (inr many) = absurd (omega arith)
@@ -138,4 +141,5 @@ pub file_refuses : {latest : ℕ} → UnionReads → (text : List ℕ) (e : Toke
     SignatureFile)
     → SpellsUpTo latest text file → file_at latest text ≡ Err e → Refuses e.kind file
 file_refuses union text e file spells h =
-    refuses_by e.kind text file spells (subst (WholeOut file) h (file_reads union text file spells))
+    refuses_by e.kind text file spells (subst (IsWholeFileOrRefusal file) h
+    (file_reads union text file spells))

@@ -12,7 +12,7 @@ use mathlib.Core.Path.{fun_ext}
 use Rattle.arrayvec.specs.ArrayVec.{ArrayVec}
 use Rattle.giop_sig.specs.declared.types.TypeId.{TypeId}
 use Rattle.giop_sig.specs.declared.catalogue.Signature.{Signature}
-use Rattle.giop_sig.specs.Table.{Operation, Exception, Identity, Table, op_id, type_id, no_operation, no_exception, no_identity, operation_key, keyed_number, exception_in, members_at, identified_in, identity_at}
+use Rattle.giop_sig.specs.Table.{Operation, Exception, Identity, Table, op_id, type_id, no_operation, no_exception, no_identity, operation_key, operation_number_of_key, exception_in, exception_members_at, identified_in, identity_type_at}
 use Rattle.giop_sig.specs.HeaderTypes.{IsTable}
 use Rattle.giop_sig.specs.Entries.{operation_view, exception_view, identity_view}
 
@@ -56,7 +56,8 @@ not_there name_in xs d name most short long =
 -- ---- operations
 
 pub no_operation_long : (t : Table) (interface : ℕ) (name : List ℕ) → IsTable t
-    → 128 < length name → None ≡ option_map op_id (keyed_number t (operation_key interface name))
+    → 128 < length name → None ≡ option_map op_id
+    (operation_number_of_key t (operation_key interface name))
 no_operation_long t interface name laws long =
     sym (ap (option_map op_id) (not_there (λ (o : Operation). o.key) t.operations no_operation
     (operation_key interface name) 130
@@ -67,7 +68,7 @@ pub operation_found : (es : List (ArrayVec ℕ × Signature)) (t : Table) (key n
     (r : Option ℕ) → map operation_view es ≡ t.operations → key ≡ name
     → r ≡ position (λ (k : ArrayVec ℕ). bytes_eq key k.items)
     (map (λ (e : ArrayVec ℕ × Signature). e.0) es)
-    → option_map op_id r ≡ option_map op_id (keyed_number t name)
+    → option_map op_id r ≡ option_map op_id (operation_number_of_key t name)
 operation_found es t key name r view same is =
     ap (option_map op_id) (is ∙ index_of (λ (k : ArrayVec ℕ). k.items) operation_view
     (λ (o : Operation). o.key) es key name same (λ e. refl)
@@ -102,16 +103,19 @@ signature_known es view t i e laws same kept at = search (
 pub no_exception_long : (t : Table) (name : List ℕ) → IsTable t → 128 < length name
     → None ≡ exception_in t name
 no_exception_long t name laws long =
-    sym (ap (option_map (members_at t)) (not_there (λ (e : Exception). e.repository) t.exceptions
+    sym (ap (option_map (exception_members_at t))
+    (not_there (λ (e : Exception). e.repository) t.exceptions
     no_exception name 128
     (λ i lt. (laws.exceptions i no_exception lt).short) long))
 
 pub exception_index : (es : List (ArrayVec ℕ × TypeId)) (t : Table) (key name : List ℕ)
     (r : Option ℕ) → map exception_view es ≡ t.exceptions → key ≡ name
     → r ≡ position (λ (k : ArrayVec ℕ). bytes_eq key k.items)
-    (map (λ (e : ArrayVec ℕ × TypeId). e.0) es) → option_map (members_at t) r ≡ exception_in t name
+    (map (λ (e : ArrayVec ℕ × TypeId). e.0) es) → option_map (exception_members_at t) r
+    ≡ exception_in t name
 exception_index es t key name r view same is =
-    ap (option_map (members_at t)) (is ∙ index_of (λ (k : ArrayVec ℕ). k.items) exception_view
+    ap (option_map (exception_members_at t)) (is ∙ index_of
+    (λ (k : ArrayVec ℕ). k.items) exception_view
     (λ (e : Exception). e.repository) es key name same (λ e. refl)
     ∙ ap (λ (xs : List Exception). position (λ (e : Exception). bytes_eq name e.repository) xs)
     view)
@@ -144,7 +148,8 @@ exception_known es t i e laws view at = search (arith, length-map, inside_by, ge
 pub no_identity_long : (t : Table) (name : List ℕ) → IsTable t → 128 < length name
     → None ≡ identified_in t name
 no_identity_long t name laws long =
-    sym (ap (option_map (identity_at t)) (not_there (λ (e : Identity). e.repository) t.identities
+    sym (ap (option_map (identity_type_at t))
+    (not_there (λ (e : Identity). e.repository) t.identities
     no_identity name 128
     (λ i lt. (laws.identities i no_identity lt).short) long))
 
@@ -152,9 +157,9 @@ pub identity_index : (es : List (ArrayVec ℕ × TypeId)) (t : Table) (key name 
     (r : Option ℕ) → map identity_view es ≡ t.identities → key ≡ name
     → r ≡ position (λ (k : ArrayVec ℕ). bytes_eq key k.items)
     (map (λ (e : ArrayVec ℕ × TypeId). e.0) es)
-    → option_map (identity_at t) r ≡ identified_in t name
+    → option_map (identity_type_at t) r ≡ identified_in t name
 identity_index es t key name r view same is =
-    ap (option_map (identity_at t)) (is ∙ index_of (λ (k : ArrayVec ℕ). k.items) identity_view
+    ap (option_map (identity_type_at t)) (is ∙ index_of (λ (k : ArrayVec ℕ). k.items) identity_view
     (λ (e : Identity). e.repository) es key name same (λ e. refl)
     ∙ ap (λ (xs : List Identity). position (λ (e : Identity). bytes_eq name e.repository) xs)
     view)

@@ -8,24 +8,24 @@ use Rattle.std.proofs.lemmas.List.Elements.{recursion_from_All}
 use Rattle.giop_sig.specs.declared.entries.Entry.{Entry}
 use Rattle.giop_sig.specs.declared.entries.Entry.TheVariants as entries
 use Rattle.giop_sig.specs.Kinds.{is_kind, kind_word, kind_words, marked_word}
-use Rattle.giop_sig.specs.Types.{HasInner, HasMember, IsUnion}
-use Rattle.giop_sig.specs.Table.{Node, Part, Case, node_in, part_at, type_of, name_of, name_at, switch_at, shape_of, case_part, IsFormed, IsPart, IsInner, IsScalarNode, IsSwitch, TakesOctet}
+use Rattle.giop_sig.specs.Types.{HasSmallerPart, HasMember, IsUnion}
+use Rattle.giop_sig.specs.Table.{Node, Part, Case, node_in, part_at, type_of, name_of, name_at, switch_at, shape_of, case_part, IsFormed, IsPart, IsPartNumber, IsScalarNode, IsDiscriminatorNumber, TakesOctet}
 use Rattle.giop_sig.specs.Table as nodes
-use Rattle.giop_sig.specs.Views.{node_view, IsSized}
+use Rattle.giop_sig.specs.Views.{node_view, HasCountableParts}
 use Rattle.giop_sig.proofs.Nodes.{part_there}
 
 -- what is true of each part is true of the one that is read
-abbrev OnPart : (Part → Type 0) → Option Part → Type 0
-OnPart P None = Unit {0}
-OnPart P (Some p) = P p
+abbrev IsTrueOfPart : (P : Part → Type 0) (part : Option Part) → Type 0
+IsTrueOfPart P None = Unit {0}
+IsTrueOfPart P (Some p) = P p
 
 case_read : (P : Part → Type 0) (cs : List Case) (i : ℕ) → AllByRecursion (λ c. P c.part) cs
-    → OnPart P (case_part (slice_get cs i))
+    → IsTrueOfPart P (case_part (slice_get cs i))
 case_read P [] i all = tt
 case_read P (c ∷ cs) zero all = all.0
 case_read P (c ∷ cs) (suc i) all = case_read P cs i all.1
 
-on_some : (P : Part → Type 0) (o : Option Part) (p : Part) → o ≡ Some p → OnPart P o → P p
+on_some : (P : Part → Type 0) (o : Option Part) (p : Part) → o ≡ Some p → IsTrueOfPart P o → P p
 on_some P None p e h = absurd cc
 on_some P (Some q) p e h = search (arith)
 
@@ -39,7 +39,7 @@ part_in types n (p ∷ ps) (suc i) all lt = part_in types n ps i all.1 (omega ar
 
 narrow_read : (P : Part → Type 0) (wide : Option ℕ) (cs : List Case) (i : ℕ)
     → AllByRecursion (λ c. P (nodes.narrow_part wide c.part)) cs
-    → OnPart P (option_map (nodes.narrow_part wide) (case_part (slice_get cs i)))
+    → IsTrueOfPart P (option_map (nodes.narrow_part wide) (case_part (slice_get cs i)))
 narrow_read P wide [] i all = tt
 narrow_read P wide (c ∷ cs) zero all = all.0
 narrow_read P wide (c ∷ cs) (suc i) all = narrow_read P wide cs i all.1
@@ -61,7 +61,7 @@ narrow_formed types n wide {kind} cases i formed has =
 
 -- the part at an index is one that the type may have
 pub part_formed : (types : List Node) (n : ℕ) (node : Node) (i : ℕ) → IsFormed types n node
-    → HasInner (shape_of node) i → IsInner types n (type_of (part_at node i))
+    → HasSmallerPart (shape_of node) i → IsPartNumber types n (type_of (part_at node i))
 part_formed types n (nodes.members parts) i formed has =
     (part_in types n parts i (recursion_from_All (IsPart types n) parts formed.1) has).inner
 part_formed types n (nodes.union switch cases otherwise) i formed has =
@@ -69,7 +69,7 @@ part_formed types n (nodes.union switch cases otherwise) i formed has =
     let is = on_some (IsPart types n) (case_part (slice_get cases i)) there.0 there.1
     (case_read (IsPart types n) cases i (recursion_from_All (λ (c : Case). IsPart types n c.part)
     cases formed.2)) in
-    subst (λ o. IsInner types n (type_of o)) (sym there.1) is.inner
+    subst (λ o. IsPartNumber types n (type_of o)) (sym there.1) is.inner
 part_formed types n (nodes.sequence bound element) i formed has = formed
 part_formed types n (nodes.array count element) i formed has = formed.1
 part_formed types n (nodes.encapsulation held) i formed has = formed
@@ -99,7 +99,7 @@ name_short types n (nodes.announced index) i formed has = absurd (omega arith)
 name_short types n _ i formed has = absurd has
 
 pub switch_formed : (types : List Node) (n : ℕ) (node : Node) → IsFormed types n node
-    → IsUnion (shape_of node) → IsSwitch types n (switch_at node)
+    → IsUnion (shape_of node) → IsDiscriminatorNumber types n (switch_at node)
 switch_formed types n (nodes.union switch cases otherwise) formed is = formed.0
 switch_formed types n (nodes.tagged special tag inner other) formed is = formed.0
 switch_formed types n (nodes.typecode wide kind cases) formed is = formed.0
@@ -142,7 +142,8 @@ enum_name_short types i (nodes.marked mark) n formed = word_short mark n
 enum_name_short types i _ n formed = tt
 
 -- an entry that is well formed can be counted
-pub sized : (types : List Node) (n : ℕ) (e : Entry) → IsFormed types n (node_view e) → IsSized e
+pub sized : (types : List Node) (n : ℕ) (e : Entry) → IsFormed types n (node_view e)
+    → HasCountableParts e
 sized types n (entries.Enumeration names) formed = search (arith, length-map)
 sized types n (entries.Members parts) formed = search (arith, length-map)
 sized types n (entries.Union switch cases otherwise) formed = formed.1
@@ -157,7 +158,7 @@ pub record AlikeBelow (types others : List Node) (n : ℕ) : Type 0 where
   pub scalar : (i : ℕ) → i < n → IsScalarNode (node_in types i) → IsScalarNode (node_in others i)
 
 pub inner_moved : (types others : List Node) (n i : ℕ) → AlikeBelow types others n
-    → IsInner types n i → IsInner others n i
+    → IsPartNumber types n i → IsPartNumber others n i
 inner_moved types others n i alike is =
     record { below = is.below; takes = alike.takes i is.below is.takes }
 
@@ -167,7 +168,7 @@ part_moved types others n p alike is =
     record { inner = inner_moved types others n p.type alike is.inner; short = is.short }
 
 switch_moved : (types others : List Node) (n i : ℕ) → AlikeBelow types others n
-    → IsSwitch types n i → IsSwitch others n i
+    → IsDiscriminatorNumber types n i → IsDiscriminatorNumber others n i
 switch_moved types others n i alike is =
     record { below = is.below; scalar = alike.scalar i is.below is.scalar }
 
@@ -201,7 +202,7 @@ formed_alike types others n (nodes.tagged special tag inner other) alike formed 
 formed_alike types others n (nodes.recursive bound element) alike formed = formed
 formed_alike types others n _ alike formed = tt
 
-abbrev pub SameNodes : List Node → List Node → ℕ → Type 0
+abbrev pub SameNodes : (types others : List Node) (n : ℕ) → Type 0
 SameNodes types others n = (i : ℕ) → i < n → node_in types i ≡ node_in others i
 
 pub formed_moved : (types others : List Node) (n : ℕ) (node : Node) → SameNodes types others n

@@ -9,10 +9,10 @@ use Rattle.giop_sig.specs.Heard.{with_front}
 use Rattle.giop_sig.proofs.Added.{list_any-map}
 use Rattle.giop_sig.proofs.Finds.{position-map}
 
-abbrev pub items_of : List (ArrayVec ℕ) → List (List ℕ)
+abbrev pub items_of : (ks : List (ArrayVec ℕ)) → List (List ℕ)
 items_of ks = map (λ k. k.items) ks
 
-abbrev same_front : ArrayVec ℕ → ArrayVec ℕ → Bool
+abbrev same_front : (one other : ArrayVec ℕ) → Bool
 same_front a b = bytes_eq a.items b.items
 
 put_by : (ks : List (ArrayVec ℕ)) (k : ArrayVec ℕ) (v : Bool)

@@ -5,32 +5,35 @@ use Rattle.std.specs.Option.{option_map}
 use Rattle.giop_sig.specs.Types.{Ty}
 use Rattle.giop_sig.specs.Table.{Table}
 use Rattle.giop_sig.specs.Trees.{tree_at, tree}
-use Rattle.giop_sig.specs.Builtin.{builtin_types, older}
-use Rattle.giop_sig.specs.AnyTypes.{first_table, third_types}
-use Rattle.giop_sig.specs.HeaderTypes.{cell_in, header_number, header_rows, header_type, IdStandsFirst, BeginsWithId, IsTable}
+use Rattle.giop_sig.specs.Builtin.{builtin_types, older_number}
+use Rattle.giop_sig.specs.AnyTypes.{first_table, version_3_types}
+use Rattle.giop_sig.specs.HeaderTypes.{cell_of_minor, header_type_number, header_rows, header_type, RequestIdStandsFirst, BeginsWithId, IsTable}
 use Rattle.giop_sig.proofs.Builtins.{header_found}
 
 -- the header types of the table of version 3 or of the other versions
-abbrev headers : Bool → ℕ → ℕ → ℕ → Option Ty
-headers v version minor kind =
-    option_map (tree (record (first_table version) { types = cond v third_types builtin_types }))
-    (option_map (λ n. cond v n (older n)) (cell_in (slice_get header_rows kind) minor))
+abbrev header_type_by_version : (flag : Bool) (version minor kind : ℕ) → Option Ty
+header_type_by_version v version minor kind =
+    option_map (tree (record (first_table version)
+    { types = cond v version_3_types builtin_types }))
+    (option_map (λ n. cond v n (older_number n)) (cell_of_minor (slice_get header_rows kind) minor))
 
-in_last : (v : Bool) (version kind : ℕ) → IfSome (headers v version 2 kind) BeginsWithId
-unfolding tree_at builtin_types third_types
+in_last : (v : Bool) (version kind : ℕ) → IfSome
+    (header_type_by_version v version 2 kind) BeginsWithId
+unfolding tree_at builtin_types version_3_types
 in_last v version (suc (suc (suc (suc (suc zero))))) = tt
 in_last v version (suc (suc (suc (suc (suc (suc zero)))))) = tt
 in_last v version (suc (suc (suc (suc (suc (suc (suc (suc kind)))))))) = tt
 in_last true version _ = (_, _, _, refl, refl, refl)
 in_last false version _ = (_, _, _, refl, refl, refl)
 
-in_cancel : (v : Bool) (version minor : ℕ) → IfSome (headers v version minor 2) BeginsWithId
-unfolding tree_at builtin_types third_types
+in_cancel : (v : Bool) (version minor : ℕ) → IfSome
+    (header_type_by_version v version minor 2) BeginsWithId
+unfolding tree_at builtin_types version_3_types
 in_cancel v version (suc (suc (suc minor))) = tt
 in_cancel true version _ = (_, _, _, refl, refl, refl)
 in_cancel false version _ = (_, _, _, refl, refl, refl)
 
-pub id_first : (version minor kind : ℕ) → IdStandsFirst minor kind
+pub id_first : (version minor kind : ℕ) → RequestIdStandsFirst minor kind
     → IfSome (header_type version minor kind) BeginsWithId
 id_first version minor kind (inl last) =
     subst (λ m. IfSome (header_type version m kind) BeginsWithId) (sym last)
@@ -45,7 +48,7 @@ some_of_map P f None o e h = tt
 some_of_map P f (Some x) o e h = search (arith)
 
 pub id_found : {X : Type 0} (t : Table) (f : X → ℕ) (r : Option X) (minor kind : ℕ) → IsTable t
-    → option_map f r ≡ header_number t.version minor kind → IdStandsFirst minor kind
+    → option_map f r ≡ header_type_number t.version minor kind → RequestIdStandsFirst minor kind
     → IfSome r (λ x. BeginsWithId (tree t (f x)))
 id_found t f r minor kind laws e first =
     some_of_map BeginsWithId (λ x. tree t (f x)) r

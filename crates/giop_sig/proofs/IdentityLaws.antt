@@ -9,19 +9,19 @@ use Rattle.giop_tokens.specs.Readers.{as_repository, next_as, repository_at}
 use Rattle.giop_tokens.proofs.ReaderLaws.{bind_ok, ok_is, repository_again, repository_few, repository_takes}
 use Rattle.giop_sig.specs.Table.{Node, identified_in}
 use Rattle.giop_sig.specs.Grammar.{spell_identity}
-use Rattle.giop_sig.specs.Scopes.{is_third, Scope}
+use Rattle.giop_sig.specs.Scopes.{is_version_3, Scope}
 use Rattle.giop_sig.specs.Validity.{FaultKind, OfTypeId, OfIdentity}
 use Rattle.giop_sig.specs.ScopeViews.{IsNewIdentity}
 use Rattle.giop_sig.specs.Outcomes.{refused}
 use Rattle.giop_sig.specs.ItemReading.{IdentityRead, identity_after, identity_by, identity_at}
-use Rattle.giop_sig.proofs.ReadingLaws.{Out, good, broken, Took}
-use Rattle.giop_sig.proofs.TypeTaken.{Grows}
+use Rattle.giop_sig.proofs.ReadingLaws.{IsMadeOrBreaksRule, good, broken, SpellsUpTo}
+use Rattle.giop_sig.proofs.TypeTaken.{AddsOnlyTypes}
 use Rattle.giop_sig.proofs.ItemTaken.{none_of}
 use Rattle.giop_sig.proofs.ItemLaws.{some_none}
 
 -- ---- a text that is spelled so
 
-identity_keeps : (s : Scope) (id : List ℕ) → is_third s.names ≡ true → length id ≤ 128
+identity_keeps : (s : Scope) (id : List ℕ) → is_version_3 s.names ≡ true → length id ≤ 128
     → identified_in s.table id ≡ None → (k : FaultKind) → OfTypeId k s id
 identity_keeps s id third short new kinds.Syntax = third
 identity_keeps s id third short new kinds.Limit = short
@@ -30,8 +30,9 @@ identity_keeps s id third short new _ = tt
 
 id_reads : (types : List Node) (s : Scope) (text id rest : List ℕ) (more : List Token)
     (known : Bool) → is_some (identified_in s.table id) ≡ known → AreTokens rest more
-    → is_third s.names ≡ true → length id ≤ 128
-    → Out {X = IdentityRead} (λ rest. (Some id, rest)) (λ k. OfTypeId k s id) types more
+    → is_version_3 s.names ≡ true → length id ≤ 128
+    → IsMadeOrBreaksRule {X = IdentityRead} (λ rest. (Some id, rest)) (λ k. OfTypeId k s id) types
+    more
     (cond known (Err (refused kinds.Duplicate text)) (Ok (Some id, rest)))
 id_reads types s text id rest more true e m third short =
     broken (refused kinds.Duplicate text) (some_none (identified_in s.table id) e)
@@ -40,7 +41,8 @@ id_reads types s text id rest more false e m third short =
 
 none_reads : (types : List Node) (s : Scope) (text : List ℕ) (t : Token) (more : List Token)
     (third : Bool) → as_repository t ≡ None → AreTokens text (t ∷ more)
-    → Out {X = IdentityRead} (λ rest. (None, rest)) (λ k. OfIdentity k s None) types (t ∷ more)
+    → IsMadeOrBreaksRule {X = IdentityRead} (λ rest. (None, rest)) (λ k. OfIdentity k s None) types
+    (t ∷ more)
     (cond third (identity_by s text) (Ok (None, text)))
 none_reads types s text t more true other h = rw (h.1, other) (good text h (λ k. tt))
 none_reads types s text t more false other h = good text h (λ k. tt)
@@ -49,11 +51,12 @@ none_reads types s text t more false other h = good text h (λ k. tt)
 pub identity_reads : (types : List Node) (s : Scope) (id : Option (List ℕ)) (text : List ℕ)
     (t : Token) (more : List Token) → as_repository t ≡ None → OfIdentity kinds.Syntax s id
     → AreTokens text (spell_identity id (t ∷ more))
-    → Out {X = IdentityRead} (λ rest. (id, rest)) (λ k. OfIdentity k s id) types (t ∷ more)
+    → IsMadeOrBreaksRule {X = IdentityRead} (λ rest. (id, rest)) (λ k. OfIdentity k s id) types
+    (t ∷ more)
     (identity_at s text)
 unfolding identity_at
 identity_reads types s None text t more other free h =
-    none_reads types s text t more (is_third s.names) other h
+    none_reads types s text t more (is_version_3 s.names) other h
 identity_reads types s (Some id) text t more other free h =
     let short = repository_few text (id, h.0) (repository_again text id (t ∷ more) h) in
     rw (free, h.1)
@@ -69,7 +72,7 @@ unfolding next_as
 repository_short text id rest n = repository_few text (id, rest) (rw n refl)
 
 pub record IdentityTaken (s : Scope) (text : List ℕ) (x : IdentityRead) : Type 0 where
-  pub took : Took (spell_identity x.0) (OfIdentity kinds.Syntax s x.0) text x.1
+  pub took : SpellsUpTo (spell_identity x.0) (OfIdentity kinds.Syntax s x.0) text x.1
   pub new : IsNewIdentity s.table x.0
 
 none_taken : (s : Scope) (text : List ℕ) (x : IdentityRead) → (None, text) ≡ x
@@ -78,7 +81,7 @@ none_taken s text x e = subst (IdentityTaken s text) e
     (record { took = record { free = tt; front = λ more m. m }; new = tt })
 
 id_taken : (s : Scope) (text id rest : List ℕ) (x : IdentityRead) (known : Bool)
-    → is_some (identified_in s.table id) ≡ known → is_third s.names ≡ true
+    → is_some (identified_in s.table id) ≡ known → is_version_3 s.names ≡ true
     → repository_at text ≡ Ok (id, rest)
     → cond known (Err (refused kinds.Duplicate text)) (Ok (Some id, rest)) ≡ Ok x
     → IdentityTaken s text x
@@ -91,7 +94,7 @@ id_taken s text id rest x false k third r e =
     })
 
 taken_after : (s : Scope) (text rest : List ℕ) (x : IdentityRead) (t : Option Token)
-    (o : Option (List ℕ)) → option_and_then as_repository t ≡ o → is_third s.names ≡ true
+    (o : Option (List ℕ)) → option_and_then as_repository t ≡ o → is_version_3 s.names ≡ true
     → next text ≡ Ok (t, rest) → identity_after s text o rest ≡ Ok x → IdentityTaken s text x
 unfolding next_as
 taken_after s text rest x t None o third n e = none_taken s text x (ok_is (None, text) x e)
@@ -99,7 +102,7 @@ taken_after s text rest x t (Some id) o third n e =
     id_taken s text id rest x (is_some (identified_in s.table id)) refl third (rw (n, o) refl) e
 
 taken_by : (s : Scope) (text : List ℕ) (x : IdentityRead) (third : Bool)
-    → is_third s.names ≡ third → cond third (identity_by s text) (Ok (None, text)) ≡ Ok x
+    → is_version_3 s.names ≡ third → cond third (identity_by s text) (Ok (None, text)) ≡ Ok x
     → IdentityTaken s text x
 taken_by s text x true third e =
     let t = bind_ok _ _ x e in
@@ -109,10 +112,10 @@ taken_by s text x false third e = none_taken s text x (ok_is (None, text) x e)
 pub identity_takes : (s : Scope) (text : List ℕ) (x : IdentityRead) → identity_at s text ≡ Ok x
     → IdentityTaken s text x
 unfolding identity_at
-identity_takes s text x e = taken_by s text x (is_third s.names) refl e
+identity_takes s text x e = taken_by s text x (is_version_3 s.names) refl e
 
 -- a repository id that was new is still new
-pub identity_still_new : (s t : Scope) (id : Option (List ℕ)) → Grows s t
+pub identity_still_new : (s t : Scope) (id : Option (List ℕ)) → AddsOnlyTypes s t
     → IsNewIdentity s.table id → IsNewIdentity t.table id
 identity_still_new s t None g new = tt
 identity_still_new s t (Some id) g new = search (arith)

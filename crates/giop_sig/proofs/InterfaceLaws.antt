@@ -17,10 +17,10 @@ use Rattle.indexmap.specs.IndexSet.{insert_key}
 use Rattle.giop_sig.specs.declared.types.InterfaceId.{InterfaceId}
 use Rattle.giop_sig.specs.Table.{interface_id}
 use Rattle.giop_sig.specs.Interfaces.{Interfaces, digit, hex, whole_text, front_text, of_text, number_of, with_interface, longest_front, of_key, IsInterfaceOf}
-use Rattle.giop_sig.specs.InterfaceViews.{key_view, interfaces_view, IsKeyOf, AreKept}
+use Rattle.giop_sig.specs.InterfaceViews.{key_view, interfaces_view, IsKeyOf, AreInterfacesKept}
 use Rattle.giop_sig.proofs.Added.{some_position, list_any-map, entry_last}
 use Rattle.giop_sig.proofs.Finds.{position-map, not_there}
-use Rattle.giop_sig.specs.ScopeViews.{key_is}
+use Rattle.giop_sig.specs.ScopeViews.{same_key_octets}
 use Rattle.giop_sig.proofs.ScopeLaws.{none_found, none_before}
 
 -- ---- hexadecimal digits
@@ -40,12 +40,12 @@ front_long octets = omega (arith, hex_long octets, length-append (hex octets) (4
 
 -- ---- the names
 
-abbrev items_of : List (ArrayVec ℕ) → List (List ℕ)
+abbrev items_of : (ks : List (ArrayVec ℕ)) → List (List ℕ)
 items_of ks = map (λ (n : ArrayVec ℕ). n.items) ks
 
 pub name_held : (i : Interfaces) (ks : List (ArrayVec ℕ)) (key : ArrayVec ℕ) (id : List ℕ)
     → map (λ (n : ArrayVec ℕ). n.items) ks ≡ i.names → key.items ≡ id
-    → list_any (key_is key) ks ≡ list_any (bytes_eq id) i.names
+    → list_any (same_key_octets key) ks ≡ list_any (bytes_eq id) i.names
 name_held i ks key id names same =
     sym (list_any-map (bytes_eq key.items) (λ (n : ArrayVec ℕ). n.items) ks)
     ∙ ap (λ (w : List ℕ). list_any (bytes_eq w) (items_of ks)) same
@@ -53,7 +53,7 @@ name_held i ks key id names same =
 
 name_index : (i : Interfaces) (ks : List (ArrayVec ℕ)) (key : ArrayVec ℕ) (id : List ℕ)
     → map (λ (n : ArrayVec ℕ). n.items) ks ≡ i.names → key.items ≡ id
-    → position (key_is key) ks ≡ position (bytes_eq id) i.names
+    → position (same_key_octets key) ks ≡ position (bytes_eq id) i.names
 name_index i ks key id names same =
     sym (position-map (bytes_eq key.items) (λ (n : ArrayVec ℕ). n.items) ks)
     ∙ ap (λ (w : List ℕ). position (bytes_eq w) (items_of ks)) same
@@ -62,7 +62,7 @@ name_index i ks key id names same =
 -- what is found for a repository id
 pub name_found : (i : Interfaces) (ks : List (ArrayVec ℕ)) (key : ArrayVec ℕ) (id : List ℕ)
     (o : Option ℕ) → map (λ (n : ArrayVec ℕ). n.items) ks ≡ i.names → key.items ≡ id
-    → o ≡ position (key_is key) ks
+    → o ≡ position (same_key_octets key) ks
     → option_map interface_id o ≡ option_map interface_id (position (bytes_eq id) i.names)
 name_found i ks key id o names same is =
     ap (option_map interface_id) (is ∙ name_index i ks key id names same)
@@ -93,14 +93,14 @@ next_by false a n e le is = let ge = ltb-false a n e in omega arith
 
 pub name_numbered : (i : Interfaces) (ks : List (ArrayVec ℕ)) (key : ArrayVec ℕ) (id : List ℕ)
     (n : ℕ) → map (λ (n : ArrayVec ℕ). n.items) ks ≡ i.names → key.items ≡ id
-    → Some n ≡ position (key_is key) ks → n ≡ number_of i id
+    → Some n ≡ position (same_key_octets key) ks → n ≡ number_of i id
 name_numbered i ks key id n names same is =
     index_by (ltb (number_of i id) (length i.names)) (number_of i id) n
     (is ∙ name_index i ks key id names same)
 
 pub name_next : (i : Interfaces) (ks : List (ArrayVec ℕ)) (key : ArrayVec ℕ) (id : List ℕ) (n : ℕ)
     → map (λ (n : ArrayVec ℕ). n.items) ks ≡ i.names → key.items ≡ id → n ≡ length ks
-    → None ≡ position (key_is key) ks → n ≡ number_of i id
+    → None ≡ position (same_key_octets key) ks → n ≡ number_of i id
 name_next i ks key id n names same all is =
     all ∙ sym (length-map ks (λ (n : ArrayVec ℕ). n.items)) ∙ ap length names
     ∙ next_by (ltb (number_of i id) (length i.names)) (number_of i id) (length i.names) refl
@@ -146,11 +146,11 @@ names_by false ks ns key id names same =
 -- the fields after an interface was put
 pub name_put : (i : Interfaces) (ks new : List (ArrayVec ℕ)) (es : List (ArrayVec ℕ × InterfaceId))
     (key : ArrayVec ℕ) (id : List ℕ) → interfaces_view ks es ≡ i → key.items ≡ id
-    → new ≡ insert_key key_is ks key → interfaces_view new es ≡ with_interface i id
+    → new ≡ insert_key same_key_octets ks key → interfaces_view new es ≡ with_interface i id
 name_put i ks new es key id view same is =
     let names = ap (λ (u : Interfaces). u.names) view in
     let put = ap items_of is
-    ∙ names_by (list_any (key_is key) ks) ks i.names key id names same
+    ∙ names_by (list_any (same_key_octets key) ks) ks i.names key id names same
     ∙ ap (λ v. cond v i.names (i.names ++ id ∷ [])) (name_held i ks key id names same) in
     ap (λ (ns : List (List ℕ)). record (interfaces_view ks es) { names = ns }) put
     ∙ ap (λ (u : Interfaces). record u { names = (with_interface i id).names }) view
@@ -163,10 +163,11 @@ all_more m n (k ∷ ks) le all = (
   all_more m n ks le all.1,
 )
 
-kept_by : (marked : List Bool) (i : Interfaces) (id : List ℕ) (v : Bool) → AreKept marked i
+kept_by : (marked : List Bool) (i : Interfaces) (id : List ℕ) (v : Bool)
+    → AreInterfacesKept marked i
     → length id ≤ 128 → list_any (bytes_eq id) i.names ≡ v
     → (list_any (bytes_eq id) i.names ≡ true) ⊎ (length i.names < 1024)
-    → AreKept marked (record i { names = cond v i.names (i.names ++ id ∷ []) })
+    → AreInterfacesKept marked (record i { names = cond v i.names (i.names ++ id ∷ []) })
 kept_by marked i id true is short e room =
     record { short = is.short; few = is.few; keys = is.keys; whole = is.whole; sizes = is.sizes }
 kept_by marked i id false is short e (inl known) = absurd (false≢true (sym e ∙ known))
@@ -179,9 +180,9 @@ kept_by marked i id false is short e (inr few) = record {
   sizes = is.sizes;
 }
 
-pub name_kept : (marked : List Bool) (i : Interfaces) (id : List ℕ) → AreKept marked i
+pub name_kept : (marked : List Bool) (i : Interfaces) (id : List ℕ) → AreInterfacesKept marked i
     → length id ≤ 128 → (list_any (bytes_eq id) i.names ≡ true) ⊎ (length i.names < 1024)
-    → AreKept marked (with_interface i id)
+    → AreInterfacesKept marked (with_interface i id)
 name_kept marked i id is short room =
     kept_by marked i id (list_any (bytes_eq id) i.names) is short refl room
 
@@ -194,14 +195,14 @@ cond_map f false x o = refl
 
 view_found : (key : ArrayVec ℕ) (es : List (ArrayVec ℕ × InterfaceId))
     → lookup (bytes_eq key.items) (map key_view es)
-    ≡ option_map (λ (x : InterfaceId). x.0) (lookup (key_is key) es)
+    ≡ option_map (λ (x : InterfaceId). x.0) (lookup (same_key_octets key) es)
 view_found key [] = refl
 view_found key (e ∷ es) = search (arith, cond, cond_map, view_found key es)
 
 -- what is found for a key
 pub text_found : (i : Interfaces) (es : List (ArrayVec ℕ × InterfaceId)) (key : ArrayVec ℕ)
     (text : List ℕ) (o : Option InterfaceId) → map key_view es ≡ i.keys → key.items ≡ text
-    → o ≡ lookup (key_is key) es → option_map (λ (x : InterfaceId). x.0) o ≡ of_text i text
+    → o ≡ lookup (same_key_octets key) es → option_map (λ (x : InterfaceId). x.0) o ≡ of_text i text
 text_found i es key text o keys same is =
     ap (option_map (λ (x : InterfaceId). x.0)) is ∙ sym (view_found key es)
     ∙ ap (λ (w : List ℕ). lookup (bytes_eq w) (map key_view es)) same
@@ -231,14 +232,15 @@ long_none i text all long = long_keys (length i.names) i.keys text all long
 -- the fields after a new KEY was put
 pub key_put : (i : Interfaces) (ks : List (ArrayVec ℕ)) (es new : List (ArrayVec ℕ × InterfaceId))
     (key : ArrayVec ℕ) (v : InterfaceId) (text : List ℕ) → interfaces_view ks es ≡ i
-    → key.items ≡ text → of_text i text ≡ None → new ≡ insert_entry key_is es key v
+    → key.items ≡ text → of_text i text ≡ None → new ≡ insert_entry same_key_octets es key v
     → interfaces_view ks new ≡ record i { keys = i.keys ++ (text, v.0) ∷ [] }
 key_put i ks es new key v text view same none is =
     let keys = ap (λ (u : Interfaces). u.keys) view in
-    let found = text_found i es key text (lookup (key_is key) es) keys same refl in
-    let unseen = none_before (λ (x : InterfaceId). x.0) (lookup (key_is key) es) (found ∙ none) in
+    let found = text_found i es key text (lookup (same_key_octets key) es) keys same refl in
+    let unseen = none_before (λ (x : InterfaceId). x.0) (lookup (same_key_octets key) es)
+    (found ∙ none) in
     let last : new ≡ es ++ (key, v) ∷ [] =
-    is ∙ entry_last key_is es key v (none_found key es unseen) in
+    is ∙ entry_last same_key_octets es key v (none_found key es unseen) in
     ap (interfaces_view ks) last
     ∙ ap (λ (xs : List (List ℕ × ℕ)). record (interfaces_view ks es) { keys = xs })
     (map-append key_view es ((key, v) ∷ []) ∙ ap (λ (xs : List (List ℕ × ℕ)).
@@ -264,7 +266,7 @@ none_last text (x ∷ ks) k e differs =
     (lookup (bytes_eq text) (ks ++ k ∷ [])) e (λ none. none_last text ks k none differs)
 
 -- the mark of a size after a KEY was put
-abbrev pub mark_after : List Bool → List ℕ → Bool
+abbrev pub mark_after : (marked : List Bool) (text : List ℕ) → Bool
 mark_after marked text =
     get_or marked (length text / 2) false || nat_eq (length text % 2) 1
 
@@ -301,9 +303,10 @@ other_by true marked text octets same lt e =
     ∙ (neither (get_or marked (length text / 2) false) (nat_eq (length text % 2) 1) put).1
 other_by false marked text octets same lt e = refl
 
-pub key_kept : (marked : List Bool) (i : Interfaces) (text : List ℕ) (n : ℕ) → AreKept marked i
+pub key_kept : (marked : List Bool) (i : Interfaces) (text : List ℕ) (n : ℕ)
+    → AreInterfacesKept marked i
     → length text ≤ 128 → n < length i.names
-    → AreKept (slice_set marked (length text / 2) (mark_after marked text))
+    → AreInterfacesKept (slice_set marked (length text / 2) (mark_after marked text))
     (record i { keys = i.keys ++ (text, n) ∷ [] })
 key_kept marked i text n is short lt =
     let size = is.whole in

@@ -15,38 +15,40 @@ use Rattle.giop_sig.specs.declared.announced.TypeWord.{TypeWord}
 use Rattle.giop_sig.specs.Table.{Node, Part}
 use Rattle.giop_sig.specs.Trees.{depth_of}
 use Rattle.giop_sig.specs.Grammar.{TypeExpr, Base, Item, spell_lengths, spell_type, spell_item, spell_items}
-use Rattle.giop_sig.specs.Scopes.{Names, is_third, Scope, item_part, add_type, add_arrays, add_item, add_items}
-use Rattle.giop_sig.specs.Validity.{FaultKind, IsFree, is_among, is_taken, OfNewName, OfSome, OfItem, OfItems, OfDeclared}
+use Rattle.giop_sig.specs.Scopes.{Names, is_version_3, Scope, item_part, add_type, add_arrays, add_item, add_items}
+use Rattle.giop_sig.specs.Validity.{FaultKind, IsNotReserved, is_among, is_name_taken, OfNewName, OfNonEmpty, OfItem, OfItems, OfDeclaredName}
 use Rattle.giop_sig.specs.Outcomes.{refused}
 use Rattle.giop_sig.specs.TypeReading.{type_at}
-use Rattle.giop_sig.specs.ItemReading.{new_name_at, declared_at, ItemRead, lengths_at, most_lengths, read_item, item_at, Members, member_at, member_step, MembersRead, members_run, filled_at, Declared, too_deep, end_of}
+use Rattle.giop_sig.specs.ItemReading.{new_name_at, declared_name_at, ItemRead, lengths_at, most_lengths, item_read, item_at, MembersSoFar, member_at, member_step, MembersRead, members_run, non_empty_list_at, DeclarationRead, too_deep, declaration_end_at}
 use Rattle.giop_sig.proofs.AddTypeLaws.{within_same, arrays_more, item_names, items_more}
-use Rattle.giop_sig.proofs.ReadingLaws.{Out, good, broken, out_bind, out_more, Apart, if_apart}
+use Rattle.giop_sig.proofs.ReadingLaws.{IsMadeOrBreaksRule, good, broken, out_bind, out_more, BeginsWithoutMark, if_apart}
 use Rattle.giop_sig.proofs.LengthLaws.{lengths_reads}
 use Rattle.giop_sig.proofs.TypeLaws.{type_reads}
-use Rattle.giop_sig.proofs.ItemTaken.{unused, then_run}
+use Rattle.giop_sig.proofs.ItemTaken.{name_if_unused, then_run}
 use Rattle.giop_sig.proofs.RepeatLaws.{step_first}
 use Rattle.giop_sig.specs.Repeats.{in_steps}
 
 -- ---- a list that isn't empty
 
-pub some_keeps : {X : Type 0} (x : X) (xs : List X) (k : FaultKind) → OfSome k (x ∷ xs)
+pub some_keeps : {X : Type 0} (x : X) (xs : List X) (k : FaultKind) → OfNonEmpty k (x ∷ xs)
 some_keeps x xs kinds.Token = tt
 some_keeps x xs _ = tt
 
 pub filled_end : (text rest : List ℕ) → mark_if marks.CloseBrace text ≡ Ok (Some rest)
-    → filled_at text ≡ Err (refused kinds.Empty text)
-unfolding filled_at
+    → non_empty_list_at text ≡ Err (refused kinds.Empty text)
+unfolding non_empty_list_at
 filled_end text rest h = rw h refl
 
-pub filled_on : (text : List ℕ) → mark_if marks.CloseBrace text ≡ Ok None → filled_at text ≡ Ok text
-unfolding filled_at
+pub filled_on : (text : List ℕ) → mark_if marks.CloseBrace text ≡ Ok None → non_empty_list_at text
+    ≡ Ok text
+unfolding non_empty_list_at
 filled_on text h = rw h refl
 
 -- ---- names
 
 -- what is asked of a new name
-pub name_keeps : (third : Bool) (most : ℕ) (seen : List (List ℕ)) (w : List ℕ) → IsFree third w
+pub name_keeps : (third : Bool) (most : ℕ) (seen : List (List ℕ)) (w : List ℕ)
+    → IsNotReserved third w
     → length w ≤ 64 → length seen < most → is_among seen w ≡ false
     → (k : FaultKind) → OfNewName k third most seen w
 name_keeps third most seen w free short few new kinds.Syntax = free
@@ -60,8 +62,8 @@ pub unused_reads : {rule : FaultKind → Type 0} {types : List Node} {more : Lis
     (text w rest : List ℕ) → AreTokens rest more → (known ≡ true → rule kinds.Duplicate → ⊥)
     → (full ≡ true → rule kinds.Limit → ⊥) → (known ≡ false → full ≡ false → (k : FaultKind) →
     rule k)
-    → Out {X = List ℕ × List ℕ} (λ rest. (w, rest)) rule types more
-    (unused known full text (w, rest))
+    → IsMadeOrBreaksRule {X = List ℕ × List ℕ} (λ rest. (w, rest)) rule types more
+    (name_if_unused known full text (w, rest))
 unused_reads true full text w rest m double many keeps = search (arith, broken)
 unused_reads false true text w rest m double many keeps = search (arith, broken)
 unused_reads false false text w rest m double many keeps = good rest m (keeps refl refl)
@@ -71,11 +73,11 @@ identifier_by : {X : Type 0} {made : List ℕ → X} {rule : FaultKind → Type 
     {more : List Token}
     (third : Bool) (f : List ℕ × List ℕ → Result X TokenError) (text w : List ℕ) (v : Bool)
     → ltb 64 (length w) ≡ v →
-    IsFree third w
+    IsNotReserved third w
     → AreTokens text (word w ∷ more) → (64 < length w → rule kinds.Limit → ⊥)
     → (length w ≤ 64 → (rest : List ℕ) → AreTokens rest more →
-    Out made rule types more (f (w, rest)))
-    → Out made rule types more (identifier_at third text >>= f)
+    IsMadeOrBreaksRule made rule types more (f (w, rest)))
+    → IsMadeOrBreaksRule made rule types more (identifier_at third text >>= f)
 identifier_by {more = more} third f text w true e free h long on =
     let z = ltb-true 64 (length w) e in rw (identifier_long third text w more h free z)
     (broken (too_long text) (inl (long z)))
@@ -85,12 +87,14 @@ identifier_by {more = more} third f text w false e free h long on =
 
 pub new_name_reads : (third : Bool) (types : List Node) (most : ℕ) (seen : List (List ℕ))
     (text w : List ℕ)
-    (more : List Token) → IsFree third w → AreTokens text (word w ∷ more)
-    → Out {X = List ℕ × List ℕ} (λ rest. (w, rest)) (λ k. OfNewName k third most seen w) types more
+    (more : List Token) → IsNotReserved third w → AreTokens text (word w ∷ more)
+    → IsMadeOrBreaksRule {X = List ℕ × List ℕ} (λ rest. (w, rest))
+    (λ k. OfNewName k third most seen w) types more
     (new_name_at third most seen text)
 unfolding new_name_at
 new_name_reads third types most seen text w more free h =
-    identifier_by third (λ n. unused (is_among seen n.0) (leb most (length seen)) text n) text w
+    identifier_by third (λ n. name_if_unused (is_among seen n.0) (leb most (length seen)) text n)
+    text w
     (ltb 64 (length w)) refl free h
     (λ long r. let f = r.0 in omega arith)
     (λ short rest m. unused_reads (is_among seen w) (leb most (length seen)) text w rest m
@@ -99,8 +103,8 @@ new_name_reads third types most seen text w more free h =
     (λ k f. name_keeps third most seen w free short (leb-false most (length seen) f) k))
 
 declared_keeps : (s : Scope) (kind : Option TypeWord) (count : ℕ) (w : List ℕ)
-    → IsFree (is_third s.names) w → length w ≤ 64 → count < 4096
-    → is_taken s.names kind w ≡ false → (k : FaultKind) → OfDeclared k s kind count w
+    → IsNotReserved (is_version_3 s.names) w → length w ≤ 64 → count < 4096
+    → is_name_taken s.names kind w ≡ false → (k : FaultKind) → OfDeclaredName k s kind count w
 declared_keeps s kind count w free short few new kinds.Syntax = free
 declared_keeps s kind count w free short few new kinds.Duplicate = new
 declared_keeps s kind count w free short few new kinds.Limit = (short, few)
@@ -112,47 +116,50 @@ some_none (Some x) e h = absurd cc
 
 pub declared_reads : (types : List Node) (s : Scope) (kind : Option TypeWord) (count : ℕ)
     (text w : List ℕ)
-    (more : List Token) → IsFree (is_third s.names) w → AreTokens text (word w ∷ more)
-    → Out {X = List ℕ × List ℕ} (λ rest. (w, rest)) (λ k. OfDeclared k s kind count w) types more
-    (declared_at s kind count text)
-unfolding declared_at
+    (more : List Token) → IsNotReserved (is_version_3 s.names) w → AreTokens text (word w ∷ more)
+    → IsMadeOrBreaksRule {X = List ℕ × List ℕ} (λ rest. (w, rest))
+    (λ k. OfDeclaredName k s kind count w) types more
+    (declared_name_at s kind count text)
+unfolding declared_name_at
 declared_reads types s kind count text w more free h =
-    identifier_by (is_third s.names)
-    (λ n. unused (is_taken s.names kind n.0) (leb 4096 count) text n) text w (ltb 64 (length w))
+    identifier_by (is_version_3 s.names)
+    (λ n. name_if_unused (is_name_taken s.names kind n.0) (leb 4096 count) text n) text w
+    (ltb 64 (length w))
     refl free h
     (λ long r. let f = r.0 in omega arith)
-    (λ short rest m. unused_reads (is_taken s.names kind w) (leb 4096 count) text w rest m
+    (λ short rest m. unused_reads (is_name_taken s.names kind w) (leb 4096 count) text w rest m
     (λ k r. false≢true (sym r ∙ k))
     (λ k r. let z = leb-true 4096 count k in let f = r.1 in omega arith)
     (λ k f. declared_keeps s kind count w free short (leb-false 4096 count f) k))
 
 -- ---- items
 
-abbrev pub made_item : Scope → Item → List ℕ → ItemRead
+abbrev pub made_item : (scope : Scope) (item : Item) (rest : List ℕ) → ItemRead
 made_item s i rest = ((add_item s i).0, item_part i (add_item s i), rest)
 
 pub item_reads : (most : ℕ) (seen : List (List ℕ)) (s : Scope) (i : Item) (text : List ℕ)
     (more : List Token) → OfItem kinds.Syntax s.names most seen i
-    → Apart marks.OpenBracket more → AreTokens text (spell_item i more)
-    → Out (made_item s i) (λ k. OfItem k s.names most seen i) (add_item s i).0.table.types more
+    → BeginsWithoutMark marks.OpenBracket more → AreTokens text (spell_item i more)
+    → IsMadeOrBreaksRule (made_item s i) (λ k. OfItem k s.names most seen i)
+    (add_item s i).0.table.types more
     (item_at most seen s text)
 unfolding item_at
 item_reads most seen s i text more free apart h =
     let p = add_type s i.type in
-    out_bind (type_at s text) (λ t. new_name_at (is_third s.names) most seen t.2 >>= λ n.
-    lengths_at (most_lengths (is_third s.names) n.1) n.1
-    >>= λ l. Ok (read_item (add_arrays l.0 (t.0, t.1)) n.0 l.1))
+    out_bind (type_at s text) (λ t. new_name_at (is_version_3 s.names) most seen t.2 >>= λ n.
+    lengths_at (most_lengths (is_version_3 s.names) n.1) n.1
+    >>= λ l. Ok (item_read (add_arrays l.0 (t.0, t.1)) n.0 l.1))
     (type_reads s i.type text (word i.name ∷ spell_lengths i.lengths more) free.0 refl h)
     (λ a ta ka.
-    out_bind (new_name_at (is_third s.names) most seen a)
-    (λ n. lengths_at (most_lengths (is_third s.names) n.1) n.1
-    >>= λ l. Ok (read_item (add_arrays l.0 p) n.0 l.1))
-    (new_name_reads (is_third s.names) (add_type s i.type).0.table.types most seen a i.name
+    out_bind (new_name_at (is_version_3 s.names) most seen a)
+    (λ n. lengths_at (most_lengths (is_version_3 s.names) n.1) n.1
+    >>= λ l. Ok (item_read (add_arrays l.0 p) n.0 l.1))
+    (new_name_reads (is_version_3 s.names) (add_type s i.type).0.table.types most seen a i.name
     (spell_lengths i.lengths more)
     free.1 ta)
     (λ b tb kb.
-    out_bind (lengths_at (most_lengths (is_third s.names) b) b)
-    (λ l. Ok (read_item (add_arrays l.0 p) i.name l.1))
+    out_bind (lengths_at (most_lengths (is_version_3 s.names) b) b)
+    (λ l. Ok (item_read (add_arrays l.0 p) i.name l.1))
     (lengths_reads (add_type s i.type).0.table.types s.names i.lengths b more free.2 apart tb)
     (λ c tc kc. good c tc (λ k. (ka k, kb k, kc k)))
     (λ k w. w.2) (arrays_more i.lengths (add_type s i.type)))
@@ -162,11 +169,13 @@ item_reads most seen s i text more free apart h =
 -- ---- members
 
 -- a type doesn't begin with a mark
-pub type_apart : (e : TypeExpr) (more : List Token) → Apart marks.CloseBrace (spell_type e more)
+pub type_apart : (e : TypeExpr) (more : List Token) → BeginsWithoutMark marks.CloseBrace
+    (spell_type e more)
 type_apart (Base p) more = refl
 type_apart _ more = refl
 
-abbrev made_member : List (List ℕ) → List Part → Scope → Item → List ℕ → Bool × Members
+abbrev made_member : (seen : List (List ℕ)) (parts : List Part) (scope : Scope) (item : Item)
+    (rest : List ℕ) → Bool × MembersSoFar
 made_member seen parts s i rest = (
   false,
   (
@@ -180,7 +189,7 @@ made_member seen parts s i rest = (
 member_reads : (seen : List (List ℕ)) (parts : List Part) (s : Scope) (i : Item)
     (text : List ℕ) (more : List Token) → OfItem kinds.Syntax s.names 256 seen i
     → AreTokens text (spell_item i (mark marks.Semicolon ∷ more))
-    → Out (made_member seen parts s i) (λ k. OfItem k s.names 256 seen i)
+    → IsMadeOrBreaksRule (made_member seen parts s i) (λ k. OfItem k s.names 256 seen i)
     (add_item s i).0.table.types more (member_at (s, seen, parts, text))
 unfolding member_at
 member_reads seen parts s i text more free h =
@@ -190,22 +199,23 @@ member_reads seen parts s i text more free h =
     (λ rest m keeps. rw (mark_again marks.Semicolon rest more m) (good m.0 m.2 keeps)) (λ k w. w)
     within_same
 
-abbrev pub made_members : List Part → Scope → List Item → List ℕ → MembersRead
+abbrev pub made_members : (parts : List Part) (scope : Scope) (items : List Item) (rest : List ℕ) →
+    MembersRead
 made_members parts s is rest = ((add_items s is).0, parts ++ (add_items s is).1, rest)
 
-run_on : (n : ℕ) (m : Members) → mark_if marks.CloseBrace m.3 ≡ Ok None
+run_on : (n : ℕ) (m : MembersSoFar) → mark_if marks.CloseBrace m.3 ≡ Ok None
     → members_run (suc n) m ≡ (member_at m >>= then_run n)
 unfolding member_step
 run_on n m h = search (arith, then_run, step_first)
 
-run_end : (n : ℕ) (m : Members) (rest : List ℕ) → mark_if marks.CloseBrace m.3 ≡ Ok (Some rest)
+run_end : (n : ℕ) (m : MembersSoFar) (rest : List ℕ) → mark_if marks.CloseBrace m.3 ≡ Ok (Some rest)
     → members_run (suc n) m ≡ Ok (m.0, m.2, rest)
 unfolding in_steps member_step
 run_end n m rest h = rw h refl
 
 closes : (seen : List (List ℕ)) (parts : List Part) (s : Scope) (names : Names) (rest : List ℕ)
     (more : List Token) → AreTokens rest more
-    → Out (made_members parts s []) (λ k. OfItems k names 256 seen [])
+    → IsMadeOrBreaksRule (made_members parts s []) (λ k. OfItems k names 256 seen [])
     (add_items s []).0.table.types more (Ok (s, parts, rest))
 unfolding OfItems add_items
 closes seen parts s names rest more m = search (arith, append-nil, good)
@@ -213,16 +223,17 @@ closes seen parts s names rest more m = search (arith, append-nil, good)
 made_on : (parts : List Part) (s : Scope) (i : Item) (is : List Item) (names : Names)
     (seen : List (List ℕ)) (more : List Token) (r : Result MembersRead TokenError)
     → ((k : FaultKind) → OfItem k names 256 seen i)
-    → Out (made_members (parts ++ item_part i (add_item s i) ∷ []) (add_item s i).0 is)
+    → IsMadeOrBreaksRule (made_members (parts ++ item_part i (add_item s i) ∷ []) (add_item s i).0
+    is)
     (λ k. OfItems k names 256 (seen ++ i.name ∷ []) is)
     (add_items (add_item s i).0 is).0.table.types more r
-    → Out (made_members parts s (i ∷ is)) (λ k. OfItems k names 256 seen (i ∷ is))
+    → IsMadeOrBreaksRule (made_members parts s (i ∷ is)) (λ k. OfItems k names 256 seen (i ∷ is))
     (add_items s (i ∷ is)).0.table.types more r
 unfolding OfItems add_items
 made_on parts s i is names seen more r first o =
     let same = append_assoc parts (item_part i (add_item s i) ∷ [])
     (add_items (add_item s i).0 is).1 in
-    out_more (subst (λ ps. Out {X = MembersRead}
+    out_more (subst (λ ps. IsMadeOrBreaksRule {X = MembersRead}
     (λ rest. ((add_items (add_item s i).0 is).0, ps, rest))
     (λ k. OfItems k names 256 (seen ++ i.name ∷ []) is)
     (add_items (add_item s i).0 is).0.table.types more r) same o)
@@ -231,12 +242,13 @@ made_on parts s i is names seen more r first o =
 -- a member, and then the others
 member_on : (n : ℕ) (seen : List (List ℕ)) (parts : List Part) (s : Scope) (names : Names)
     (i : Item) (is : List Item) (more : List Token) → s.names ≡ names
-    → (r : Result (Bool × Members) TokenError)
-    → Out (made_member seen parts s i) (λ k. OfItem k names 256 seen i)
+    → (r : Result (Bool × MembersSoFar) TokenError)
+    → IsMadeOrBreaksRule (made_member seen parts s i) (λ k. OfItem k names 256 seen i)
     (add_item s i).0.table.types (spell_items is more) r
     → ((rest : List ℕ) → AreTokens rest (spell_items is more)
     → ((k : FaultKind) → OfItem k names 256 seen i)
-    → Out (made_members (parts ++ item_part i (add_item s i) ∷ []) (add_item s i).0 is)
+    → IsMadeOrBreaksRule (made_members (parts ++ item_part i (add_item s i) ∷ []) (add_item s i).0
+    is)
     (λ k. OfItems k names 256 (seen ++ i.name ∷ []) is)
     (add_items (add_item s i).0 is).0.table.types more
     (members_run n (
@@ -245,7 +257,7 @@ member_on : (n : ℕ) (seen : List (List ℕ)) (parts : List Part) (s : Scope) (
       parts ++ item_part i (add_item s i) ∷ [],
       rest,
     )))
-    → Out (made_members parts s (i ∷ is)) (λ k. OfItems k names 256 seen (i ∷ is))
+    → IsMadeOrBreaksRule (made_members parts s (i ∷ is)) (λ k. OfItems k names 256 seen (i ∷ is))
     (add_items s (i ∷ is)).0.table.types more
     (r >>= then_run n)
 unfolding OfItems add_items
@@ -264,7 +276,7 @@ pub members_reads : (is : List Item) (n : ℕ) (seen : List (List ℕ)) (parts :
     (s : Scope) (names : Names) (text : List ℕ) (more : List Token) → s.names ≡ names
     → n + length seen ≡ 257 → length seen ≤ 256
     → OfItems kinds.Syntax names 256 seen is → AreTokens text (spell_items is more)
-    → Out (made_members parts s is) (λ k. OfItems k names 256 seen is)
+    → IsMadeOrBreaksRule (made_members parts s is) (λ k. OfItems k names 256 seen is)
     (add_items s is).0.table.types more (members_run n (s, seen, parts, text))
 unfolding OfItems
 members_reads [] zero seen parts s names text more same n few free h = absurd (omega arith)
@@ -280,7 +292,7 @@ members_reads (i ∷ is) (suc n) seen parts s names text more same fuel few free
     (mark marks.Semicolon ∷ spell_items is more))) h in
     rw (run_on n (s, seen, parts, text) apart)
     (member_on n seen parts s names i is more same (member_at (s, seen, parts, text))
-    (subst (λ ns. Out (made_member seen parts s i) (λ k. OfItem k ns 256 seen i)
+    (subst (λ ns. IsMadeOrBreaksRule (made_member seen parts s i) (λ k. OfItem k ns 256 seen i)
     (add_item s i).0.table.types (spell_items is more)
     (member_at (s, seen, parts, text))) same
     (member_reads seen parts s i text (spell_items is more)
@@ -297,7 +309,7 @@ members_reads (i ∷ is) (suc n) seen parts s names text more same fuel few free
 end_by : (at : ℕ) (s : Scope) (rule : FaultKind → Type 0) (rest : List ℕ) (more : List Token) (v :
     Bool)
     → leb (depth_of s.table.types) 24 ≡ v → AreTokens rest more → ((k : FaultKind) → rule k)
-    → Out {X = Declared} (λ rest. (s, rest)) rule s.table.types more
+    → IsMadeOrBreaksRule {X = DeclarationRead} (λ rest. (s, rest)) rule s.table.types more
     (cond v (Ok (s, rest)) (Err (too_deep at)))
 end_by at s rule rest more true d m keeps = good rest m keeps
 end_by at s rule rest more false d m keeps = search (arith, broken, leb-false)
@@ -305,8 +317,9 @@ end_by at s rule rest more false d m keeps = search (arith, broken, leb-false)
 -- the end of a declaration that keeps the other rules
 pub end_reads : (at : ℕ) (s : Scope) (rule : FaultKind → Type 0) (text : List ℕ) (more : List Token)
     → AreTokens text (mark marks.Semicolon ∷ more) → ((k : FaultKind) → rule k)
-    → Out {X = Declared} (λ rest. (s, rest)) rule s.table.types more (end_of at s text)
-unfolding end_of
+    → IsMadeOrBreaksRule {X = DeclarationRead} (λ rest. (s, rest)) rule s.table.types more
+    (declaration_end_at at s text)
+unfolding declaration_end_at
 end_reads at s rule text more h keeps =
     rw (mark_again marks.Semicolon text more h)
     (end_by at s rule h.0 more (leb (depth_of s.table.types) 24) refl h.2 keeps)

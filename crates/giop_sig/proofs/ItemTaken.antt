@@ -14,42 +14,43 @@ use Rattle.giop_tokens.specs.declared.marks.Mark.TheVariants as marks
 use Rattle.giop_tokens.specs.Tokens.{word, repository, mark}
 use Rattle.giop_tokens.specs.Reading.{◌>>=◌}
 use Rattle.giop_tokens.specs.Readers.{mark_at, mark_if}
-use Rattle.giop_tokens.proofs.ReaderLaws.{bind_ok, ok_is, Takes, word_takes, mark_takes, mark_if_takes, repository_takes, identifier_word, repository_few}
+use Rattle.giop_tokens.proofs.ReaderLaws.{bind_ok, ok_is, TakesToken, word_takes, mark_takes, mark_if_takes, repository_takes, identifier_word, repository_few}
 use Rattle.giop_sig.specs.declared.announced.TypeWord.{TypeWord}
 use Rattle.giop_sig.specs.Table.{Node, Part, IsPart, TakesOctet, exception_in}
 use Rattle.giop_sig.specs.Table as nodes
 use Rattle.giop_sig.specs.Grammar.{Declaration, Item, spell, spell_lengths, spell_item, spell_items}
 use Rattle.giop_sig.specs.Trees.{depth_of}
-use Rattle.giop_sig.specs.Scopes.{announced_as, is_third, Scope, with_node, add_arrays}
-use Rattle.giop_sig.specs.Validity.{IsFree, can_declare, is_among, is_taken, OfLengths, OfDeclaration, OfItem, OfItems}
+use Rattle.giop_sig.specs.Scopes.{announced_as, is_version_3, Scope, with_node, add_arrays}
+use Rattle.giop_sig.specs.Validity.{IsNotReserved, matches_announcement, is_among, is_name_taken, OfLengths, OfDeclaration, OfItem, OfItems}
 use Rattle.giop_sig.specs.ScopeViews.{IsScope}
 use Rattle.giop_sig.specs.Outcomes.{refused}
 use Rattle.giop_sig.specs.TypeReading.{TypeRead}
-use Rattle.giop_sig.specs.ItemReading.{new_name_at, declared_at, ItemRead, LengthsRead, read_item, item_at, Members, member_at, member_after, member_step, too_many_members, MembersRead, members_read, members_run, members_at, unless_closed, filled_at, Declared, too_deep, end_of, new_repository_at}
+use Rattle.giop_sig.specs.ItemReading.{new_name_at, declared_name_at, ItemRead, LengthsRead, item_read, item_at, MembersSoFar, member_at, member_after, member_step, too_many_members, MembersRead, members_read, members_run, members_at, unless_closed, non_empty_list_at, DeclarationRead, too_deep, declaration_end_at, new_repository_at}
 use Rattle.giop_sig.specs.Repeats.{in_steps}
 use Rattle.giop_sig.proofs.Added.{neither}
-use Rattle.giop_sig.proofs.ReadingLaws.{Took}
+use Rattle.giop_sig.proofs.ReadingLaws.{SpellsUpTo}
 use Rattle.giop_sig.proofs.RepeatLaws.{step_first}
-use Rattle.giop_sig.proofs.TypeTaken.{Grows, grows_none, grows_on, grows_known, Sound, node_grows, TakenType, type_takes}
+use Rattle.giop_sig.proofs.TypeTaken.{AddsOnlyTypes, grows_none, grows_on, grows_known, IsKnownInScope, node_grows, TakenType, type_takes}
 use Rattle.giop_sig.proofs.LengthLaws.{lengths_takes, arrays_grow, arrays_sound}
 
 -- ---- names
 
 pub record NameTaken (third : Bool) (most : ℕ) (seen : List (List ℕ)) (text : List ℕ)
     (x : List ℕ × List ℕ) : Type 0 where
-  pub free : IsFree third x.0
+  pub free : IsNotReserved third x.0
   pub short : length x.0 ≤ 64
   pub few : length seen < most
-  pub front : Takes text (word x.0) x.1
+  pub front : TakesToken text (word x.0) x.1
 
 -- a word, unless it is in the list, or the list is full
-abbrev pub unused : Bool → Bool → List ℕ → List ℕ × List ℕ → Result (List ℕ × List ℕ) TokenError
-unused known full text n =
+abbrev pub name_if_unused : (known full : Bool) (text : List ℕ) (n : List ℕ × List ℕ) →
+    Result (List ℕ × List ℕ) TokenError
+name_if_unused known full text n =
     cond known (Err (refused kinds.Duplicate text))
     (cond full (Err (refused kinds.Limit text)) (Ok (n.0, n.1)))
 
 pub unused_is : (known full : Bool) (text : List ℕ) (n x : List ℕ × List ℕ)
-    → unused known full text n ≡ Ok x → (n ≡ x) × (known ≡ false) × (full ≡ false)
+    → name_if_unused known full text n ≡ Ok x → (n ≡ x) × (known ≡ false) × (full ≡ false)
 unused_is true full text n x e = absurd cc
 unused_is false true text n x e = absurd cc
 unused_is false false text n x e = (ok_is n x e, refl, refl)
@@ -73,26 +74,27 @@ new_name_takes third most seen text x e =
 
 pub record DeclaredTaken (s : Scope) (kind : Option TypeWord) (count : ℕ) (text : List ℕ)
     (x : List ℕ × List ℕ) : Type 0 where
-  pub free : IsFree (is_third s.names) x.0
+  pub free : IsNotReserved (is_version_3 s.names) x.0
   pub short : length x.0 ≤ 64
   pub new : lookup (bytes_eq x.0) s.names.known ≡ None
   pub few : count < 4096
-  pub front : Takes text (word x.0) x.1
+  pub front : TakesToken text (word x.0) x.1
 
 pub none_of : {X : Type 0} (o : Option X) → is_some o ≡ false → o ≡ None
 none_of None e = refl
 none_of (Some x) e = absurd cc
 
 pub declared_takes : (s : Scope) (kind : Option TypeWord) (count : ℕ) (text : List ℕ)
-    (x : List ℕ × List ℕ) → declared_at s kind count text ≡ Ok x
+    (x : List ℕ × List ℕ) → declared_name_at s kind count text ≡ Ok x
     → DeclaredTaken s kind count text x
-unfolding declared_at
+unfolding declared_name_at
 declared_takes s kind count text x e =
     let a = bind_ok _ _ x e in
-    let w = identifier_word (is_third s.names) text a.0 a.1 in
+    let w = identifier_word (is_version_3 s.names) text a.0 a.1 in
     let known = lookup (bytes_eq (a.0).0) s.names.known in
-    let u = unused_is (is_taken s.names kind (a.0).0) (leb 4096 count) text a.0 x a.2 in
-    let free = neither (is_some known) (not (can_declare kind (announced_as s.names (a.0).0))) u.1
+    let u = unused_is (is_name_taken s.names kind (a.0).0) (leb 4096 count) text a.0 x a.2 in
+    let free = neither (is_some known) (not (matches_announcement kind
+    (announced_as s.names (a.0).0))) u.1
     in
     subst (DeclaredTaken s kind count text) u.0
     (record {
@@ -109,17 +111,17 @@ pub record TakenItem (s : Scope) (most : ℕ) (seen : List (List ℕ)) (text : L
     (x : ItemRead) : Type 0 where
   pub item : Item
   pub named : item.name ≡ (x.1).name
-  pub took : Took (spell_item item) (OfItem kinds.Syntax s.names most seen item) text x.2
-  pub grows : Grows s x.0
-  pub sound : IsScope s → Sound (x.0, (x.1).type)
+  pub took : SpellsUpTo (spell_item item) (OfItem kinds.Syntax s.names most seen item) text x.2
+  pub grows : AddsOnlyTypes s x.0
+  pub sound : IsScope s → IsKnownInScope (x.0, (x.1).type)
   pub short : length (x.1).name ≤ 64
   pub few : length seen < most
 
 item_made : (most : ℕ) (seen : List (List ℕ)) (s : Scope) (text : List ℕ) (t : TypeRead)
     (n : List ℕ × List ℕ) (l : LengthsRead) → TakenType s text t
-    → NameTaken (is_third s.names) most seen t.2 n
-    → Took (spell_lengths l.0) (OfLengths kinds.Syntax s.names l.0) n.1 l.1
-    → TakenItem s most seen text (read_item (add_arrays l.0 (t.0, t.1)) n.0 l.1)
+    → NameTaken (is_version_3 s.names) most seen t.2 n
+    → SpellsUpTo (spell_lengths l.0) (OfLengths kinds.Syntax s.names l.0) n.1 l.1
+    → TakenItem s most seen text (item_read (add_arrays l.0 (t.0, t.1)) n.0 l.1)
 item_made most seen s text t n l a b c = record {
   item = record { type = a.expr; name = n.0; lengths = l.0 };
   named = refl;
@@ -142,21 +144,22 @@ item_takes most seen s text x e =
     let n = bind_ok _ _ x t.2 in
     let l = bind_ok _ _ x n.2 in
     subst (TakenItem s most seen text)
-    (ok_is (read_item (add_arrays (l.0).0 ((t.0).0, (t.0).1)) (n.0).0 (l.0).1) x l.2)
+    (ok_is (item_read (add_arrays (l.0).0 ((t.0).0, (t.0).1)) (n.0).0 (l.0).1) x l.2)
     (item_made most seen s text t.0 n.0 l.0 (type_takes s text t.0 t.1)
-    (new_name_takes (is_third s.names) most seen (t.0).2 n.0 n.1)
+    (new_name_takes (is_version_3 s.names) most seen (t.0).2 n.0 n.1)
     (lengths_takes s.names (n.0).1 l.0 l.1))
 
 -- ---- members
 
-abbrev pub AreParts : Scope → List Part → Type 0
+abbrev pub AreParts : (scope : Scope) (ps : List Part) → Type 0
 AreParts s ps = All (IsPart s.table.types (length s.table.types)) ps
 
-part_stays : (s t : Scope) (p : Part) → Grows s t → IsPart s.table.types (length s.table.types) p
+part_stays : (s t : Scope) (p : Part) → AddsOnlyTypes s t → IsPart s.table.types
+    (length s.table.types) p
     → IsPart t.table.types (length t.table.types) p
 part_stays s t p g is = search (arith, grows_known)
 
-pub parts_stay : (s t : Scope) (ps : List Part) → Grows s t → AreParts s ps → AreParts t ps
+pub parts_stay : (s t : Scope) (ps : List Part) → AddsOnlyTypes s t → AreParts s ps → AreParts t ps
 parts_stay s t ps g all = search (arith, part_stays, get_or)
 
 pub record SoundMembers (x : MembersRead) : Type 0 where
@@ -166,11 +169,11 @@ pub record SoundMembers (x : MembersRead) : Type 0 where
 pub record TakenMembers (n : ℕ) (seen : List (List ℕ)) (parts : List Part) (s : Scope)
     (text : List ℕ) (x : MembersRead) : Type 0 where
   pub items : List Item
-  pub took : Took (spell_items items) (OfItems kinds.Syntax s.names 256 seen items) text x.2
+  pub took : SpellsUpTo (spell_items items) (OfItems kinds.Syntax s.names 256 seen items) text x.2
   pub few : length x.1 < length parts + n
   pub kept : length parts ≤ length x.1
   pub some : mark_if marks.CloseBrace text ≡ Ok None → length parts < length x.1
-  pub grows : Grows s x.0
+  pub grows : AddsOnlyTypes s x.0
   pub sound : IsScope s → AreParts s parts → SoundMembers x
 
 abbrev Found : Type 0
@@ -219,12 +222,12 @@ member_on n seen parts s text r i x a e t = record {
       (record { inner = h.known; short = a.short }));
 }
 
-abbrev pub then_run : ℕ → Bool × Members → Result MembersRead TokenError
+abbrev pub then_run : (n : ℕ) (x : Bool × MembersSoFar) → Result MembersRead TokenError
 then_run n x =
     cond x.0 (Ok x.1) (in_steps member_step too_many_members n x.1) >>= members_read
 
 member_by : (n : ℕ) (seen : List (List ℕ)) (parts : List Part) (s : Scope) (text : List ℕ)
-    (m : Bool × Members) (x : MembersRead) (c : Found) → mark_if marks.CloseBrace text ≡ Ok c
+    (m : Bool × MembersSoFar) (x : MembersRead) (c : Found) → mark_if marks.CloseBrace text ≡ Ok c
     → member_after (s, seen, parts, text) c ≡ Ok m → then_run n m ≡ Ok x
     → ((seen : List (List ℕ)) (parts : List Part) (s : Scope) (text : List ℕ)
     → members_run n (s, seen, parts, text) ≡ Ok x → TakenMembers n seen parts s text x)
@@ -234,7 +237,7 @@ member_by n seen parts s text m x (Some r) h e run on = search (arith, ok_is, cl
 member_by n seen parts s text m x None h e run on =
     let i = bind_ok _ _ m e in
     let r = bind_ok _ _ m i.2 in
-    let next : Members = ((i.0).0, seen ++ ((i.0).1).name ∷ [], parts ++ (i.0).1 ∷ [], r.0) in
+    let next : MembersSoFar = ((i.0).0, seen ++ ((i.0).1).name ∷ [], parts ++ (i.0).1 ∷ [], r.0) in
     let last : members_run n next ≡ Ok x =
     ap (then_run n) (ok_is (false, next) m r.2) ∙ run in
     member_on n seen parts s text r.0 i.0 x (item_takes 256 seen s text i.0 i.1) r.1
@@ -246,7 +249,7 @@ pub members_takes : (n : ℕ) (seen : List (List ℕ)) (parts : List Part) (s : 
 unfolding in_steps member_step
 members_takes zero seen parts s text x e = absurd cc
 members_takes (suc n) seen parts s text x e =
-    let before : Members = (s, seen, parts, text) in
+    let before : MembersSoFar = (s, seen, parts, text) in
     let m = bind_ok (member_step before) (then_run n) x
     (sym (step_first member_step too_many_members members_read n before) ∙ e) in
     let c = bind_ok (mark_if marks.CloseBrace text) (member_after before) m.0 m.1 in
@@ -258,9 +261,9 @@ filled_by : (text x : List ℕ) (c : Found) → mark_if marks.CloseBrace text �
 filled_by text x None h e = (ok_is text x e, h)
 filled_by text x (Some r) h e = absurd cc
 
-pub filled_takes : (text x : List ℕ) → filled_at text ≡ Ok x
+pub filled_takes : (text x : List ℕ) → non_empty_list_at text ≡ Ok x
     → (text ≡ x) × (mark_if marks.CloseBrace text ≡ Ok None)
-unfolding filled_at
+unfolding non_empty_list_at
 filled_takes text x e = search (arith, bind_ok, filled_by)
 
 -- ---- what the code requires
@@ -276,11 +279,11 @@ struct_formed s text m e is =
     (let f = t.few in omega arith, (t.sound is (no_parts s)).parts)
 
 pub members_grow : (s : Scope) (text : List ℕ) (m : MembersRead) →
-    members_at s text ≡ Ok m → Grows s m.0
+    members_at s text ≡ Ok m → AddsOnlyTypes s m.0
 members_grow s text m e = (members_takes 257 [] [] s text m e).grows
 
 pub exception_grows : (s : Scope) (text : List ℕ) (m : MembersRead) → members_at s text ≡ Ok m
-    → Grows s (with_node m.0 (nodes.members m.1)).0
+    → AddsOnlyTypes s (with_node m.0 (nodes.members m.1)).0
 exception_grows s text m e =
     grows_on s m.0 (with_node m.0 (nodes.members m.1)).0 (members_grow s text m e)
     (node_grows m.0 (nodes.members m.1))
@@ -291,7 +294,7 @@ some_octet (p ∷ ps) lt = tt
 
 -- a struct of some members takes an octet
 pub struct_takes : (s : Scope) (o f : List ℕ) (m : MembersRead)
-    → filled_at o ≡ Ok f → members_at s f ≡ Ok m → TakesOctet (nodes.members m.1)
+    → non_empty_list_at o ≡ Ok f → members_at s f ≡ Ok m → TakesOctet (nodes.members m.1)
 struct_takes s o f m fill e =
     let k = filled_takes o f fill in
     let some : mark_if marks.CloseBrace f ≡ Ok None =
@@ -299,14 +302,15 @@ struct_takes s o f m fill e =
     some_octet m.1 ((members_takes 257 [] [] s f m e).some some)
 
 -- a name that was new is still new
-pub still_new : (s t : Scope) (w : List ℕ) → Grows s t → lookup (bytes_eq w) s.names.known ≡ None
+pub still_new : (s t : Scope) (w : List ℕ) → AddsOnlyTypes s t → lookup (bytes_eq w) s.names.known
+    ≡ None
     → lookup (bytes_eq w) t.names.known ≡ None
 still_new s t w g e = search (arith)
 
 pub record RepositoryTaken (s : Scope) (text : List ℕ) (x : List ℕ × List ℕ) : Type 0 where
   pub short : length x.0 ≤ 128
   pub new : exception_in s.table x.0 ≡ None
-  pub front : Takes text (repository x.0) x.1
+  pub front : TakesToken text (repository x.0) x.1
 
 pub new_repository_takes : (s : Scope) (text : List ℕ) (x : List ℕ × List ℕ)
     → new_repository_at s text ≡ Ok x → RepositoryTaken s text x
@@ -321,7 +325,7 @@ new_repository_takes s text x e = search (
 )
 
 -- a repository id that was new is still new
-pub still_different : (s t : Scope) (r : List ℕ) → Grows s t → exception_in s.table r ≡ None
+pub still_different : (s t : Scope) (r : List ℕ) → AddsOnlyTypes s t → exception_in s.table r ≡ None
     → exception_in t.table r ≡ None
 still_different s t r g e = search (arith)
 
@@ -331,26 +335,27 @@ node_below s n = search (arith, length-append)
 
 -- ---- the end of a declaration
 
-pub record TakenEnd (s : Scope) (text : List ℕ) (x : Declared) : Type 0 where
+pub record TakenDeclarationEnd (s : Scope) (text : List ℕ) (x : DeclarationRead) : Type 0 where
   pub shallow : depth_of (x.0).table.types ≤ 24
   pub scope : s ≡ x.0
   pub rest : mark_at marks.Semicolon text ≡ Ok x.1
 
-end_by : (at : ℕ) (s : Scope) (text r : List ℕ) (x : Declared) (v : Bool)
+end_by : (at : ℕ) (s : Scope) (text r : List ℕ) (x : DeclarationRead) (v : Bool)
     → leb (depth_of s.table.types) 24 ≡ v → mark_at marks.Semicolon text ≡ Ok r
-    → cond v (Ok (s, r)) (Err (too_deep at)) ≡ Ok x → TakenEnd s text x
+    → cond v (Ok (s, r)) (Err (too_deep at)) ≡ Ok x → TakenDeclarationEnd s text x
 end_by at s text r x true d m e = search (arith, ok_is, leb-true)
 end_by at s text r x false d m e = absurd cc
 
-pub end_takes : (at : ℕ) (s : Scope) (text : List ℕ) (x : Declared) → end_of at s text ≡ Ok x
-    → TakenEnd s text x
-unfolding end_of
+pub end_takes : (at : ℕ) (s : Scope) (text : List ℕ) (x : DeclarationRead)
+    → declaration_end_at at s text ≡ Ok x
+    → TakenDeclarationEnd s text x
+unfolding declaration_end_at
 end_takes at s text x e =
     let r = bind_ok {A = List ℕ} _ _ x e in
     end_by at s text r.0 x (leb (depth_of s.table.types) 24) refl r.1 r.2
 
 -- the text that was read spells the declaration
-pub record TakenDeclaration (s : Scope) (text : List ℕ) (x : Declared) : Type 0 where
+pub record TakenDeclaration (s : Scope) (text : List ℕ) (x : DeclarationRead) : Type 0 where
   pub declaration : Declaration
-  pub took : Took (spell declaration) (OfDeclaration kinds.Syntax s declaration) text x.1
+  pub took : SpellsUpTo (spell declaration) (OfDeclaration kinds.Syntax s declaration) text x.1
   pub shallow : depth_of (x.0).table.types ≤ 24

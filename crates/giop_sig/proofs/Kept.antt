@@ -8,8 +8,8 @@ use Rattle.giop_sig.specs.declared.entries.EntryWithDepth.{EntryWithDepth}
 use Rattle.giop_sig.specs.Types.{most}
 use Rattle.giop_sig.specs.Table.{Node, node_in, part_at, type_of, shape_of, IsFormed}
 use Rattle.giop_sig.specs.Table as nodes
-use Rattle.giop_sig.specs.Trees.{depth_in, depth_of, node_depth, node_wide, wide_in, AreFormed}
-use Rattle.giop_sig.specs.Views.{node_view, nodes_view, IsKept, IsSized}
+use Rattle.giop_sig.specs.Trees.{depth_in, depth_of, node_depth, node_has_wide_text, has_wide_text, AreFormed}
+use Rattle.giop_sig.specs.Views.{node_view, nodes_view, AreDepthsKept, HasCountableParts}
 use Rattle.giop_sig.proofs.Depths.{by_same, depth_moved, depth_parts, most_same, type_small}
 use Rattle.giop_sig.proofs.Wides.{wide_added, wide_stays}
 use Rattle.giop_sig.proofs.Formed.{formed_stays, part_formed, sized}
@@ -35,21 +35,21 @@ inside ps types i view lt = search (arith, length-map)
 -- the entry that was read is well formed
 pub formed_read : (ps : List EntryWithDepth) (deepest : ℕ) (types : List Node) (i : ℕ)
     (p : EntryWithDepth)
-    → IsKept ps deepest → nodes_view ps ≡ types → i < length types → p ≡ get_or ps i p
+    → AreDepthsKept ps deepest → nodes_view ps ≡ types → i < length types → p ≡ get_or ps i p
     → IsFormed types i (node_view p.entry)
 formed_read ps deepest types i p is view lt h = search (arith, inside, node_read, length-map)
 
 pub sized_read : (ps : List EntryWithDepth) (deepest : ℕ) (types : List Node) (i : ℕ)
     (p : EntryWithDepth)
-    → IsKept ps deepest → nodes_view ps ≡ types → i < length types
-    → p ≡ get_or ps i p → IsSized p.entry
+    → AreDepthsKept ps deepest → nodes_view ps ≡ types → i < length types
+    → p ≡ get_or ps i p → HasCountableParts p.entry
 sized_read ps deepest types i p is view lt h =
     sized types i p.entry (formed_read ps deepest types i p is view lt h)
 
 -- the depth that was read is that of the type
 pub depth_read : (ps : List EntryWithDepth) (deepest : ℕ) (types : List Node) (i : ℕ)
     (p : EntryWithDepth)
-    → IsKept ps deepest → nodes_view ps ≡ types → i < length types → p ≡ get_or ps i p
+    → AreDepthsKept ps deepest → nodes_view ps ≡ types → i < length types → p ≡ get_or ps i p
     → p.depth ≡ depth_in types i
 depth_read ps deepest types i p is view lt h =
     let there = inside ps types i view lt in
@@ -59,16 +59,16 @@ depth_read ps deepest types i p is view lt h =
 -- the type has wide text if that was read
 pub wide_read : (ps : List EntryWithDepth) (deepest : ℕ) (types : List Node) (i : ℕ)
     (p : EntryWithDepth)
-    → IsKept ps deepest → nodes_view ps ≡ types → i < length types → p ≡ get_or ps i p
-    → p.wide ≡ wide_in types i
+    → AreDepthsKept ps deepest → nodes_view ps ≡ types → i < length types → p ≡ get_or ps i p
+    → p.wide ≡ has_wide_text types i
 wide_read ps deepest types i p is view lt h =
     let there = inside ps types i view lt in
     sym (kept_of (λ q. q.wide) false ps i p there h) ∙ is.wide i there
-    ∙ ap (λ ts. wide_in ts i) view
+    ∙ ap (λ ts. has_wide_text ts i) view
 
 pub small_read : (ps : List EntryWithDepth) (deepest : ℕ) (types : List Node) (i : ℕ)
     (p : EntryWithDepth)
-    → IsKept ps deepest → nodes_view ps ≡ types → i < length types → p ≡ get_or ps i p
+    → AreDepthsKept ps deepest → nodes_view ps ≡ types → i < length types → p ≡ get_or ps i p
     → p.depth ≤ length types
 small_read ps deepest types i p is view lt h =
     omega (
@@ -77,7 +77,7 @@ small_read ps deepest types i p is view lt h =
       type_small types i (subst AreFormed view is.types) lt,
     )
 
-pub kept_none : IsKept [] 0
+pub kept_none : AreDepthsKept [] 0
 unfolding depth_of
 kept_none = search (arith, lit<, lit≤)
 
@@ -164,12 +164,13 @@ each_added f d of ps p i each stays last lt (inr h) =
     ∙ get_or-append_seam (map f ps) (f p) [] d
     ∙ last ∙ ap (of (nodes_view ps ++ node_view p.entry ∷ [])) g
 
-pub kept_more : (ps : List EntryWithDepth) (deepest : ℕ) (p : EntryWithDepth) → IsKept ps deepest
+pub kept_more : (ps : List EntryWithDepth) (deepest : ℕ) (p : EntryWithDepth)
+    → AreDepthsKept ps deepest
     → length (nodes_view ps) + 1 < 2 ^ 32
     → IsFormed (nodes_view ps) (length (nodes_view ps)) (node_view p.entry)
     → p.depth ≡ node_depth (nodes_view ps) (node_view p.entry)
-    → p.wide ≡ node_wide (nodes_view ps) (node_view p.entry)
-    → IsKept (ps ++ p ∷ []) (max deepest p.depth)
+    → p.wide ≡ node_has_wide_text (nodes_view ps) (node_view p.entry)
+    → AreDepthsKept (ps ++ p ∷ []) (max deepest p.depth)
 kept_more ps deepest p is few formed deep wide =
     let types = nodes_view ps in
     let node = node_view p.entry in
@@ -187,9 +188,9 @@ kept_more ps deepest p is few formed deep wide =
           ∙ ap (λ ts. depth_in ts i) (sym view);
       wide = λ i lt.
           ap (λ ws. get_or ws i false) (map-append (λ (q : EntryWithDepth). q.wide) ps (p ∷ []))
-          ∙ each_added (λ q. q.wide) false wide_in ps p i is.wide
+          ∙ each_added (λ q. q.wide) false has_wide_text ps p i is.wide
           (λ k h. wide_stays types node k is.types h) so lt (cases_lt i (length ps))
-          ∙ ap (λ ts. wide_in ts i) (sym view);
+          ∙ ap (λ ts. has_wide_text ts i) (sym view);
       greatest = ap (λ n. max n p.depth) is.greatest ∙ ap (max (depth_of types)) deep
           ∙ deepest_added types node is.types formed more ∙ ap depth_of (sym view);
     }
@@ -198,19 +199,20 @@ record CanStand (types : List Node) (node : Node) (d : ℕ) (w : Bool) : Type 0 
   few : length types + 1 < 2 ^ 32
   formed : IsFormed types (length types) node
   deep : d ≡ node_depth types node
-  wide : w ≡ node_wide types node
+  wide : w ≡ node_has_wide_text types node
 
 -- the entries after one was added
 pub kept_pushed : (ps new : List EntryWithDepth) (deepest d : ℕ) (p : EntryWithDepth)
     (types : List Node)
-    → IsKept ps deepest → nodes_view ps ≡ types
+    → AreDepthsKept ps deepest → nodes_view ps ≡ types
     → length types + 1 < 2 ^ 32 → IsFormed types (length types) (node_view p.entry)
     → p.depth ≡ node_depth types (node_view p.entry)
-    → p.wide ≡ node_wide types (node_view p.entry)
-    → new ≡ ps ++ p ∷ [] → d ≡ max deepest p.depth → IsKept new d
+    → p.wide ≡ node_has_wide_text types (node_view p.entry)
+    → new ≡ ps ++ p ∷ [] → d ≡ max deepest p.depth → AreDepthsKept new d
 kept_pushed ps new deepest d p types is view few formed deep wide added greatest =
     let can : CanStand types (node_view p.entry) p.depth p.wide =
     record { few = few; formed = formed; deep = deep; wide = wide } in
     let here = subst (λ ts. CanStand ts (node_view p.entry) p.depth p.wide) (sym view) can in
     let more = kept_more ps deepest p is here.few here.formed here.deep here.wide in
-    subst (λ qs. IsKept qs d) (sym added) (subst (IsKept (ps ++ p ∷ [])) (sym greatest) more)
+    subst (λ qs. AreDepthsKept qs d) (sym added)
+    (subst (AreDepthsKept (ps ++ p ∷ [])) (sym greatest) more)

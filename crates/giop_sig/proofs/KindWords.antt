@@ -5,7 +5,7 @@ use Rattle.std.specs.List.{AllByRecursion}
 use Rattle.giop_sig.proofs.Formed.{names_short}
 use Rattle.giop_sig.specs.Kinds.{kind_word, kind_words}
 
-abbrev IsShort : List ℕ → Type 0
+abbrev IsShort : (word : List ℕ) → Type 0
 IsShort word = length word ≤ 64
 
 words_short : AllByRecursion IsShort kind_words

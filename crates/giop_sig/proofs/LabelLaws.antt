@@ -12,9 +12,9 @@ use Rattle.giop_cdr.specs.declared.number.Number.TheVariants as numbers
 use Rattle.giop_sig.specs.Table.{Node, same_number}
 use Rattle.giop_sig.specs.Table as nodes
 use Rattle.giop_sig.specs.Grammar.{Value, Plain, Below, Truth, Enumerator, Label, Default, Of}
-use Rattle.giop_sig.specs.Scopes.{below, if_at_most, numbered, label_number}
+use Rattle.giop_sig.specs.Scopes.{below, if_at_most, enumerator_number, label_number}
 use Rattle.giop_sig.specs.Validity.{same_value, same_label}
-use Rattle.giop_sig.specs.UnionReading.{Mark, same_mark}
+use Rattle.giop_sig.specs.UnionReading.{LabelMark, same_mark}
 use Rattle.giop_sig.proofs.NumberLaws.{beq_true, beq_self, number_same, number_self}
 
 -- ---- Booleans
@@ -53,12 +53,12 @@ value_self (Enumerator w) = (bytes_eq-Decides w w).1 refl
 -- ---- one value for each number
 
 -- a negative number isn't 0
-abbrev pub IsAbove : Value → Type 0
-IsAbove (Below n) = 0 < n
-IsAbove v = Unit {0}
+abbrev pub IsNoNegativeZero : (value : Value) → Type 0
+IsNoNegativeZero (Below n) = 0 < n
+IsNoNegativeZero v = Unit {0}
 
 -- the value of a primitive type that is a number
-abbrev value_from : Number → Value
+abbrev value_from : (number : Number) → Value
 value_from (numbers.Unsigned n) = Plain n
 value_from (numbers.Signed (pos n)) = Plain n
 value_from (numbers.Signed (negsuc n)) = Below (suc n)
@@ -82,7 +82,7 @@ below_again : (n : Number) (most k : ℕ) → 0 < k
     → if_at_most most k (numbers.Signed (below k)) ≡ Some n → value_from n ≡ Below k
 below_again n most k lt e = search (arith, within, leb, from_below)
 
-prim_again : (p : Primitive) (v : Value) (n : Number) → IsAbove v
+prim_again : (p : Primitive) (v : Value) (n : Number) → IsNoNegativeZero v
     → label_number (nodes.prim p) v ≡ Some n → value_from n ≡ v
 prim_again prims.Octet v n above e = absurd cc
 prim_again prims.Char (Plain k) n above e = search (arith, plain_again)
@@ -121,7 +121,7 @@ prim_again prims.Float v n above e = absurd cc
 prim_again prims.Double v n above e = absurd cc
 
 numbered_is : (names : List (List ℕ)) (w : List ℕ) (o : Option ℕ) (n : Number)
-    → position (bytes_eq w) names ≡ o → numbered o ≡ Some n
+    → position (bytes_eq w) names ≡ o → enumerator_number o ≡ Some n
     → (i : ℕ) × (n ≡ numbers.Unsigned i) × (w ≡ get_or names i [])
 numbered_is names w None n p e = absurd cc
 numbered_is names w (Some i) n p e = search (arith, bytes_eq-Decides, get_or, position-Some)
@@ -130,11 +130,11 @@ unsigned_same : (i j : ℕ) → numbers.Unsigned i ≡ numbers.Unsigned j → i 
 unsigned_same i j e = cc
 
 enumerators_again : (names : List (List ℕ)) (v w : List ℕ) (n : Number)
-    → numbered (position (bytes_eq v) names) ≡ Some n
-    → numbered (position (bytes_eq w) names) ≡ Some n → v ≡ w
+    → enumerator_number (position (bytes_eq v) names) ≡ Some n
+    → enumerator_number (position (bytes_eq w) names) ≡ Some n → v ≡ w
 enumerators_again names v w n e f = search (arith, numbered_is, get_or, unsigned_same)
 
-values_again : (node : Node) (v w : Value) (n : Number) → IsAbove v → IsAbove w
+values_again : (node : Node) (v w : Value) (n : Number) → IsNoNegativeZero v → IsNoNegativeZero w
     → label_number node v ≡ Some n → label_number node w ≡ Some n → v ≡ w
 values_again (nodes.prim p) v w n above also e f = search (arith, prim_again)
 values_again (nodes.enumeration names) (Enumerator v) (Enumerator w) n above also e f = search
@@ -164,19 +164,19 @@ values_again (nodes.typecode wide kind cases) v w n above also e f = absurd cc
 -- ---- labels, and what is kept of them
 
 -- the number that a label names; None for the default
-abbrev pub mark_of : Node → Label → Mark
+abbrev pub mark_of : (node : Node) (label : Label) → LabelMark
 mark_of node Default = None
 mark_of node (Of v) = label_number node v
 
 -- a label names a number, if it has a value
-abbrev pub IsKept : Node → Label → Type 0
-IsKept node Default = Unit {0}
-IsKept node (Of v) = (n : Number) × (label_number node v ≡ Some n) × IsAbove v
+abbrev pub NamesItsNumber : (node : Node) (label : Label) → Type 0
+NamesItsNumber node Default = Unit {0}
+NamesItsNumber node (Of v) = (n : Number) × (label_number node v ≡ Some n) × IsNoNegativeZero v
 
 some_same : (m n : Number) → Some m ≡ Some n → m ≡ n
 some_same m n e = cc
 
-of_marks : (node : Node) (v w : Value) (m n : Number) → IsAbove v → IsAbove w
+of_marks : (node : Node) (v w : Value) (m n : Number) → IsNoNegativeZero v → IsNoNegativeZero w
     → label_number node v ≡ Some m → label_number node w ≡ Some n → same_number n m ≡ same_value v w
 of_marks node v w m n above also e f =
     bool_same (same_number n m) (same_value v w)
@@ -187,7 +187,7 @@ of_marks node v w m n above also e f =
     let same : n ≡ m = some_same n m (sym f ∙ ap (label_number node) (sym one) ∙ e) in
     subst (λ k. same_number n k ≡ true) same (number_self n))
 
-same_marks : (node : Node) (x y : Label) → IsKept node x → IsKept node y
+same_marks : (node : Node) (x y : Label) → NamesItsNumber node x → NamesItsNumber node y
     → same_mark (mark_of node y) (mark_of node x) ≡ same_label x y
 same_marks node Default Default k l = refl
 same_marks node Default (Of w) k l = rw l.1 refl
@@ -195,8 +195,8 @@ same_marks node (Of v) Default k l = rw k.1 refl
 same_marks node (Of v) (Of w) k l = rw (k.1, l.1) (of_marks node v w k.0 l.0 k.2 l.2 k.1 l.1)
 
 -- a label is among others if its number is among theirs
-pub any_marks : (node : Node) (x : Label) (seen : List Label) → IsKept node x
-    → AllByRecursion (IsKept node) seen
+pub any_marks : (node : Node) (x : Label) (seen : List Label) → NamesItsNumber node x
+    → AllByRecursion (NamesItsNumber node) seen
     → list_any (λ s. same_mark s (mark_of node x)) (map (mark_of node) seen)
     ≡ list_any (same_label x) seen
 any_marks node x [] k all = refl

@@ -18,21 +18,22 @@ use Rattle.giop_tokens.specs.Names.{is_reserved}
 use Rattle.giop_tokens.proofs.ReaderLaws.{if_other, mark_again, keyword_again, keyword_if_again}
 use Rattle.giop_sig.specs.Table.{Node}
 use Rattle.giop_sig.specs.Grammar.{TypeExpr, Base, Text, Reference, AnyType, CodeType, WideChar, WideText, Named, SequenceOf, EncapsulationOf, base_word, Value, Plain, Below, Truth, Enumerator, Label, Default, Of, spell_type, spell_value, spell_label, spell_labels}
-use Rattle.giop_sig.specs.Scopes.{Names, is_third, label_number, label_numbers, has_default}
-use Rattle.giop_sig.specs.Validity.{FaultKind, IsFree, OfType, OfEnumerator, OfFit, OfValueName, OfLabelValue, same_label, OfNewLabel, OfLabel, OfLabels}
+use Rattle.giop_sig.specs.Scopes.{Names, is_version_3, label_number, label_numbers, has_default}
+use Rattle.giop_sig.specs.Validity.{FaultKind, IsNotReserved, OfType, OfEnumerator, OfLabelFit, OfValueName, OfLabelValue, same_label, OfNewLabel, OfLabel, OfLabels}
 use Rattle.giop_sig.specs.Outcomes.{refused}
 use Rattle.giop_sig.specs.Repeats.{in_steps}
-use Rattle.giop_sig.specs.UnionReading.{value_at, Mark, LabelRead, fitting, number_of_value, unseen_label, label_at, LabelsRead, with_label, begins_label, labels_step, too_many_labels, labels_at}
+use Rattle.giop_sig.specs.UnionReading.{value_at, LabelMark, LabelRead, label_fitting, number_of_value, unseen_label, label_at, LabelsRead, with_label, begins_label, labels_step, too_many_labels, labels_at}
 use Rattle.giop_sig.proofs.AddTypeLaws.{within_same}
-use Rattle.giop_sig.proofs.ReadingLaws.{Out, good, broken, out_bind, out_more}
+use Rattle.giop_sig.proofs.ReadingLaws.{IsMadeOrBreaksRule, good, broken, out_bind, out_more}
 use Rattle.giop_sig.proofs.TypeLaws.{is_not}
 use Rattle.giop_sig.proofs.EnumLaws.{out_as}
-use Rattle.giop_sig.proofs.LabelLaws.{IsAbove, mark_of, IsKept, any_marks}
+use Rattle.giop_sig.proofs.LabelLaws.{IsNoNegativeZero, mark_of, NamesItsNumber, any_marks}
 use Rattle.giop_sig.proofs.Negatives.{negative_some}
 
 -- ---- a value
 
-enumerator_keeps : (third : Bool) (w : List ℕ) → IsFree third w → length w ≤ 64 → (k : FaultKind)
+enumerator_keeps : (third : Bool) (w : List ℕ) → IsNotReserved third w → length w ≤ 64 →
+    (k : FaultKind)
     → OfEnumerator k third w
 enumerator_keeps third w free short kinds.Syntax = free
 enumerator_keeps third w free short kinds.Limit = short
@@ -40,8 +41,8 @@ enumerator_keeps third w free short _ = tt
 
 enumerator_by : (third : Bool) (w text rest : List ℕ) (types : List Node) (more : List Token)
     (v : Bool)
-    → ltb 64 (length w) ≡ v → IsFree third w → AreTokens rest more
-    → Out {X = Value × List ℕ} (λ rest. (Enumerator w, rest))
+    → ltb 64 (length w) ≡ v → IsNotReserved third w → AreTokens rest more
+    → IsMadeOrBreaksRule {X = Value × List ℕ} (λ rest. (Enumerator w, rest))
     (λ k. OfEnumerator k third w) types more
     (cond v (Err (refused kinds.Limit text)) (Ok (Enumerator w, rest)))
 enumerator_by third w text rest types more true e free m = search (arith, broken, ltb-true)
@@ -52,17 +53,18 @@ enumerator_by third w text rest types more false e free m = search (
   ltb-false,
 )
 
-not_true : (third : Bool) (w : List ℕ) → IsFree third w → bytes_eq w (codes "true") ≡ false
+not_true : (third : Bool) (w : List ℕ) → IsNotReserved third w → bytes_eq w (codes "true") ≡ false
 unfolding is_reserved
 not_true third w free = is_not third w (codes "true") free refl
 
-not_false : (third : Bool) (w : List ℕ) → IsFree third w → bytes_eq w (codes "false") ≡ false
+not_false : (third : Bool) (w : List ℕ) → IsNotReserved third w → bytes_eq w (codes "false") ≡ false
 unfolding is_reserved
 not_false third w free = is_not third w (codes "false") free refl
 
 value_reads : (third : Bool) (v : Value) (text : List ℕ) (types : List Node) (more : List Token)
     → OfValueName kinds.Syntax third v → AreTokens text (spell_value v more)
-    → Out (λ rest. (v, rest)) (λ k. OfValueName k third v) types more (value_at third text)
+    → IsMadeOrBreaksRule (λ rest. (v, rest)) (λ k. OfValueName k third v) types more
+    (value_at third text)
 unfolding value_at
 value_reads third (Plain n) text types more free h = rw h.1 (good h.0 h.2 (λ k. tt))
 value_reads third (Below n) text types more free h = rw h.1 (good h.0 h.2 (λ k. tt))
@@ -77,7 +79,7 @@ value_reads third (Enumerator w) text types more free h = search (
 )
 
 fit_keeps : (node : Node) (v : Value) (n : Number) → label_number node v ≡ Some n
-    → (k : FaultKind) → OfFit k node v
+    → (k : FaultKind) → OfLabelFit k node v
 fit_keeps node v n e kinds.Label = (n, e)
 fit_keeps node v n e _ = tt
 
@@ -89,20 +91,20 @@ fit_by : (third : Bool) (node : Node) (v : Value) (text rest : List ℕ) (types 
     (more : List Token)
     (o : Option Number) → label_number node v ≡ o → AreTokens rest more
     → ((k : FaultKind) → OfValueName k third v)
-    → Out {X = LabelRead} (λ rest. (label_number node v, rest))
-    (λ k. OfValueName k third v × OfFit k node v) types more (fitting text rest o)
+    → IsMadeOrBreaksRule {X = LabelRead} (λ rest. (label_number node v, rest))
+    (λ k. OfValueName k third v × OfLabelFit k node v) types more (label_fitting text rest o)
 fit_by third node v text rest types more None e m keeps = search (arith, broken, no_fit)
 fit_by third node v text rest types more (Some n) e m keeps = search (arith, good, fit_keeps)
 
 number_reads : (third : Bool) (node : Node) (v : Value) (text : List ℕ) (types : List Node)
     (more : List Token)
     → OfValueName kinds.Syntax third v → AreTokens text (spell_value v more)
-    → Out (λ rest. (label_number node v, rest))
-    (λ k. OfValueName k third v × OfFit k node v) types more
+    → IsMadeOrBreaksRule (λ rest. (label_number node v, rest))
+    (λ k. OfValueName k third v × OfLabelFit k node v) types more
     (number_of_value third node text)
 unfolding number_of_value
 number_reads third node v text types more free h =
-    out_bind (value_at third text) (λ x. fitting text x.1 (label_number node x.0))
+    out_bind (value_at third text) (λ x. label_fitting text x.1 (label_number node x.0))
     (value_reads third v text types more free h)
     (λ rest m keeps. fit_by third node v text rest types more (label_number node v) refl m keeps)
     (λ k w. w.0) within_same
@@ -115,13 +117,14 @@ new_keeps seen l few new kinds.Duplicate = new
 new_keeps seen l few new kinds.Limit = few
 new_keeps seen l few new _ = tt
 
-abbrev pub marks_of : Node → List Label → List Mark
+abbrev pub marks_of : (node : Node) (labels : List Label) → List LabelMark
 marks_of node ls = map (mark_of node) ls
 
 fresh_by : (node : Node) (seen : List Label) (l : Label) (text rest : List ℕ) (types : List Node)
     (more : List Token) (a b : Bool) → list_any (same_label l) seen ≡ a → leb 1024 (length seen) ≡ b
     → AreTokens rest (mark marks.Colon ∷ more)
-    → Out {X = LabelRead} (λ rest. (mark_of node l, rest)) (λ k. OfNewLabel k seen l) types more
+    → IsMadeOrBreaksRule {X = LabelRead} (λ rest. (mark_of node l, rest))
+    (λ k. OfNewLabel k seen l) types more
     (cond a (Err (refused kinds.Duplicate text))
     (cond b (Err (refused kinds.Limit text)) (Ok (mark_of node l)))
     >>= λ m. mark_at marks.Colon rest >>= λ r. Ok (m, r))
@@ -132,9 +135,10 @@ fresh_by node seen l text rest types more false false p q m =
     (good m.0 m.2 (new_keeps seen l (leb-false 1024 (length seen) q) p))
 
 fresh_reads : (node : Node) (seen : List Label) (l : Label) (text rest : List ℕ) (types : List Node)
-    (more : List Token) → IsKept node l → AllByRecursion (IsKept node) seen
+    (more : List Token) → NamesItsNumber node l → AllByRecursion (NamesItsNumber node) seen
     → AreTokens rest (mark marks.Colon ∷ more)
-    → Out {X = LabelRead} (λ rest. (mark_of node l, rest)) (λ k. OfNewLabel k seen l) types more
+    → IsMadeOrBreaksRule {X = LabelRead} (λ rest. (mark_of node l, rest))
+    (λ k. OfNewLabel k seen l) types more
     (unseen_label (marks_of node seen) (mark_of node l) text
     >>= λ m. mark_at marks.Colon rest >>= λ r. Ok (m, r))
 unfolding unseen_label
@@ -154,29 +158,30 @@ not_default text ts h = search (arith, if_other)
 
 -- a negative value that a text spells isn't 0
 value_above : (v : Value) (text : List ℕ) (more : List Token)
-    → AreTokens text (spell_value v more) → IsAbove v
+    → AreTokens text (spell_value v more) → IsNoNegativeZero v
 value_above (Below n) text more h = negative_some text h.0 n h.1
 value_above _ text more h = tt
 
-abbrev pub IsAboveLabel : Label → Type 0
-IsAboveLabel Default = Unit {0}
-IsAboveLabel (Of v) = IsAbove v
+abbrev pub HasNoNegativeZero : (label : Label) → Type 0
+HasNoNegativeZero Default = Unit {0}
+HasNoNegativeZero (Of v) = IsNoNegativeZero v
 
 pub label_above : (l : Label) (text : List ℕ) (more : List Token)
-    → AreTokens text (spell_label l more) → IsAboveLabel l
+    → AreTokens text (spell_label l more) → HasNoNegativeZero l
 label_above Default text more h = tt
 label_above (Of v) text more h = search (arith, value_above)
 
-pub label_kept : (third : Bool) (node : Node) (l : Label) → IsAboveLabel l
-    → OfLabelValue kinds.Label third node l → IsKept node l
+pub label_kept : (third : Bool) (node : Node) (l : Label) → HasNoNegativeZero l
+    → OfLabelValue kinds.Label third node l → NamesItsNumber node l
 label_kept third node Default above fit = tt
 label_kept third node (Of v) above fit = search (arith)
 
 label_reads : (third : Bool) (node : Node) (seen : List Label) (l : Label) (text : List ℕ)
     (types : List Node)
-    (more : List Token) → AllByRecursion (IsKept node) seen → OfLabel kinds.Syntax third node seen l
+    (more : List Token) → AllByRecursion (NamesItsNumber node) seen
+    → OfLabel kinds.Syntax third node seen l
     → AreTokens text (spell_label l more)
-    → Out {X = LabelRead} (λ rest. (mark_of node l, rest))
+    → IsMadeOrBreaksRule {X = LabelRead} (λ rest. (mark_of node l, rest))
     (λ k. OfLabel k third node seen l) types more
     (label_at third node (marks_of node seen) text)
 unfolding label_at
@@ -211,7 +216,7 @@ no_label text w ts a b h = rw (
   if_other (is_the_word (codes "default")) text (word w) ts h b,
 ) refl
 
-not_label : (third : Bool) (text w : List ℕ) (ts : List Token) → IsFree third w
+not_label : (third : Bool) (text w : List ℕ) (ts : List Token) → IsNotReserved third w
     → AreTokens text (word w ∷ ts)
     → begins_label text ≡ Ok false
 unfolding is_reserved
@@ -245,7 +250,7 @@ type_no_label AnyType names text more free h = search (arith, no_label)
 type_no_label CodeType names text more free h = search (arith, no_label)
 type_no_label WideChar names text more free h = search (arith, no_label)
 type_no_label (WideText bound) names text more free h = search (arith, no_label)
-type_no_label (Named w) names text more free h = not_label (is_third names) text w more free h
+type_no_label (Named w) names text more free h = not_label (is_version_3 names) text w more free h
 type_no_label (SequenceOf e o) names text more free h = search (arith, no_label)
 type_no_label (EncapsulationOf e) names text more free h = search (arith, no_label)
 
@@ -266,7 +271,8 @@ label_begins (Of v) text more h =
 -- ---- the labels of a case
 
 -- what is kept of labels, after those of the union and the case
-abbrev pub labelled : Node → List Label → List Number → Bool → List Label → List ℕ → LabelsRead
+abbrev pub labelled : (node : Node) (seen : List Label) (own : List Number) (default : Bool)
+    (labels : List Label) (rest : List ℕ) → LabelsRead
 labelled node seen own default ls rest =
     (marks_of node (seen ++ ls), own ++ label_numbers node ls, default || has_default ls, rest)
 
@@ -284,7 +290,7 @@ or_assoc false b c = refl
 
 -- one more label
 with_one : (node : Node) (seen : List Label) (own : List Number) (default : Bool)
-    (text rest : List ℕ) (l : Label) → IsKept node l
+    (text rest : List ℕ) (l : Label) → NamesItsNumber node l
     → with_label (marks_of node seen, own, default, text) (mark_of node l, rest)
     ≡ labelled node seen own default (l ∷ []) rest
 with_one node seen own default text rest Default kept = search (
@@ -296,7 +302,7 @@ with_one node seen own default text rest Default kept = search (
 )
 with_one node seen own default text rest (Of v) kept = search (arith, map-append, mark_of, or_false)
 
-numbers_cons : (node : Node) (l : Label) (ls : List Label) → IsKept node l
+numbers_cons : (node : Node) (l : Label) (ls : List Label) → NamesItsNumber node l
     → label_numbers node (l ∷ []) ++ label_numbers node ls ≡ label_numbers node (l ∷ ls)
 numbers_cons node Default ls kept = refl
 numbers_cons node (Of v) ls kept = rw kept.1 refl
@@ -307,7 +313,7 @@ default_cons Default ls = refl
 default_cons (Of v) ls = refl
 
 labelled_on : (node : Node) (seen : List Label) (own : List Number) (default : Bool) (l : Label)
-    (ls : List Label) (rest : List ℕ) → IsKept node l
+    (ls : List Label) (rest : List ℕ) → NamesItsNumber node l
     → labelled node (seen ++ l ∷ []) (own ++ label_numbers node (l ∷ []))
     (default || has_default (l ∷ [])) ls rest ≡ labelled node seen own default (l ∷ ls) rest
 labelled_on node seen own default l ls rest kept = search (
@@ -325,9 +331,14 @@ labelled_end node seen own default rest = search (arith, append-nil, or_false)
 
 step_on : (third : Bool) (node : Node) (seen : List Label) (own : List Number) (default : Bool)
     (l : Label)
-    (text : List ℕ) (types : List Node) (more : List Token) → AllByRecursion (IsKept node) seen
+    (text : List ℕ) (types : List Node) (more : List Token) → AllByRecursion
+    (NamesItsNumber node) seen
     → OfLabel kinds.Syntax third node seen l → AreTokens text (spell_label l more)
-    → Out {X = Bool × LabelsRead} (λ rest. (false, labelled node seen own default (l ∷ []) rest))
+    → IsMadeOrBreaksRule {X = Bool × LabelsRead} (λ rest. (
+      false,
+      labelled node seen own default
+          (l ∷ []) rest,
+    ))
     (λ k. OfLabel k third node seen l) types more
     (labels_step third node (marks_of node seen, own, default, text))
 unfolding labels_step
@@ -338,7 +349,7 @@ step_on third node seen own default l text types more all free h =
     (label_reads third node seen l text types more all free h)
     (λ rest m keeps.
     let kept = label_kept third node l (label_above l text more h) (keeps kinds.Label).0 in
-    subst (λ (y : LabelsRead). Out {X = Bool × LabelsRead}
+    subst (λ (y : LabelsRead). IsMadeOrBreaksRule {X = Bool × LabelsRead}
     (λ rest. (false, labelled node seen own default (l ∷ []) rest))
     (λ k. OfLabel k third node seen l)
     types more (Ok (false, y)))
@@ -355,7 +366,8 @@ pub all_push : {X : Type 0} (P : X → Type 0) (xs : List X) (x : X) → AllByRe
 all_push P [] x all p = (p, tt)
 all_push P (y ∷ ys) x all p = (all.0, all_push P ys x all.1 p)
 
-abbrev pub then_labels : Bool → Node → ℕ → Bool × LabelsRead → Result LabelsRead TokenError
+abbrev pub then_labels : (version_3 : Bool) (node : Node) (left : ℕ) (x : Bool × LabelsRead) →
+    Result LabelsRead TokenError
 then_labels third node left x =
     cond x.0 (Ok x.1) (in_steps (labels_step third node) too_many_labels left x.1)
 
@@ -363,9 +375,10 @@ labels_run : (third : Bool) (ls : List Label) (left : ℕ) (node : Node) (seen :
     (own : List Number)
     (default : Bool) (text : List ℕ) (types : List Node) (more : List Token)
     → ((rest : List ℕ) → AreTokens rest more → begins_label rest ≡ Ok false)
-    → AllByRecursion (IsKept node) seen → length seen ≤ 1024 → 1025 ≤ left + length seen
+    → AllByRecursion (NamesItsNumber node) seen → length seen ≤ 1024 → 1025 ≤ left + length seen
     → OfLabels kinds.Syntax third node seen ls → AreTokens text (spell_labels ls more)
-    → Out (labelled node seen own default ls) (λ k. OfLabels k third node seen ls) types more
+    → IsMadeOrBreaksRule (labelled node seen own default ls)
+    (λ k. OfLabels k third node seen ls) types more
     (in_steps (labels_step third node) too_many_labels left
     (marks_of node seen, own, default, text))
 unfolding in_steps OfLabels
@@ -375,7 +388,8 @@ labels_run third (l ∷ ls) zero node seen own default text types more ended all
     absurd (omega arith)
 labels_run third [] (suc left) node seen own default text types more ended all few room free h =
     rw (step_end third node (marks_of node seen, own, default, text) (ended text h))
-    (subst (λ (y : LabelsRead). Out {X = LabelsRead} (labelled node seen own default [])
+    (subst (λ (y : LabelsRead). IsMadeOrBreaksRule {X = LabelsRead} (labelled node seen own default
+    [])
     (λ k. Unit {0}) types more (Ok y))
     (sym (labelled_end node seen own default text)) (good text h (λ k. tt)))
 labels_run third (l ∷ ls) (suc left) node seen own default text types more ended all few room free
@@ -392,7 +406,7 @@ labels_run third (l ∷ ls) (suc left) node seen own default text types more end
     (labelled node seen own default (l ∷ []) rest))
     (labels_run third ls left node (seen ++ l ∷ []) (own ++ label_numbers node (l ∷ []))
     (default || has_default (l ∷ [])) rest types more ended
-    (all_push (IsKept node) seen l all kept) (omega (arith, length-append seen (l ∷ [])))
+    (all_push (NamesItsNumber node) seen l all kept) (omega (arith, length-append seen (l ∷ [])))
     (omega (arith, length-append seen (l ∷ []))) free.1 m)
     (λ after. labelled_on node seen own default l ls after kept) (λ k w. (keeps k, w)) (λ k w. w.1)
     within_same)
@@ -402,9 +416,9 @@ pub labels_reads : (third : Bool) (node : Node) (seen : List Label) (l : Label) 
     (text : List ℕ)
     (types : List Node) (more : List Token)
     → ((rest : List ℕ) → AreTokens rest more → begins_label rest ≡ Ok false)
-    → AllByRecursion (IsKept node) seen → length seen ≤ 1024
+    → AllByRecursion (NamesItsNumber node) seen → length seen ≤ 1024
     → OfLabels kinds.Syntax third node seen (l ∷ ls) → AreTokens text (spell_labels (l ∷ ls) more)
-    → Out (labelled node seen [] false (l ∷ ls))
+    → IsMadeOrBreaksRule (labelled node seen [] false (l ∷ ls))
     (λ k. OfLabels k third node seen (l ∷ ls)) types more
     (labels_at third node (marks_of node seen) text)
 unfolding labels_at

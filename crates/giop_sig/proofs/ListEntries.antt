@@ -11,7 +11,7 @@ use Rattle.giop_sig.specs.RequestList.{Entry, IsNameOctet, IsName, IsAsked, IsEn
 use Rattle.giop_sig.proofs.ListLines.{NonePass, Cut, CutAt, cut_made, none_cut, cut_is}
 use Rattle.giop_sig.proofs.ListNumbers.{is_written}
 
-abbrev pub is_space : ℕ → Bool
+abbrev pub is_space : (b : ℕ) → Bool
 is_space b = eqb b 32
 
 no_space : (b : ℕ) → digit_value b < 10 → is_space b ≡ false
@@ -43,7 +43,7 @@ pub no_number : {third : Bool} (line : List ℕ) (k : ℕ) → CutAt is_space li
 no_number line k c none h = none h.0.id h.1.id (entry_parts line k c h).0
 
 -- a text is no words
-abbrev pub NoWords : Bool → List ℕ → Type 0
+abbrev pub NoWords : (version_3 : Bool) (text : List ℕ) → Type 0
 NoWords third text = (name : List ℕ) (id : Option (List ℕ)) → text ≡ words name id
     → IsAsked third (record { name = name; interface = id }) → ⊥
 

@@ -6,11 +6,11 @@ use Rattle.std.proofs.lemmas.Bool.{le-ltb, lt-ltb}
 use Rattle.std.proofs.lemmas.List.{take_at, drop_at, length-append, length-take, length-drop, take_all}
 use Rattle.giop_sig.specs.RequestList.{lines}
 
-abbrev pub is_lf : ℕ → Bool
+abbrev pub is_lf : (b : ℕ) → Bool
 is_lf b = eqb b 10
 
 module _ {X : Type 0} (p : X → Bool) where
-  abbrev pub NonePass : List X → Type 0
+  abbrev pub NonePass : (xs : List X) → Type 0
   NonePass xs = AllByRecursion (λ x. p x ≡ false) xs
 
   -- xs is `front`, then y, the first that passes, and then `back`
@@ -20,7 +20,7 @@ module _ {X : Type 0} (p : X → Bool) where
     pub passes : p y ≡ true
     pub index : position_or_len p xs ≡ length front
 
-  abbrev pub Cuts : List X → Type 0
+  abbrev pub Cuts : (xs : List X) → Type 0
   Cuts xs = (NonePass xs × (position_or_len p xs ≡ length xs))
       ⊎ ((front : List X) × (y : X) × (back : List X) × Cut xs front y back)
 

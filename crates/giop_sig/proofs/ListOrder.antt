@@ -14,19 +14,19 @@ use Rattle.std.proofs.lemmas.Map.Made.{length-from_keys, lookup-map_values, keys
 use Rattle.indexmap.specs.IndexMap.{insert_entry}
 use Rattle.giop_sig.specs.declared.requests.Words.{Words}
 use Rattle.giop_sig.specs.declared.types.OpId.{OpId}
-use Rattle.giop_sig.specs.RequestList.{Asked, Entry, as_operation, asked_of, the_one, operation_of, flat, ids_of, asked_by, Find, found_of, kept_of, kept_operation, IsOf}
+use Rattle.giop_sig.specs.RequestList.{Asked, Entry, as_operation, asked_of, common_asked, operation_of, option_flatten, ids_of, common_asked_by_id, OperationLookup, with_found_operation, operations_by_id, kept_operation, AgreesWithList}
 use Rattle.giop_sig.specs.RequestViews.{words_view, asked_view}
 use Rattle.giop_sig.proofs.Added.{entry_last, list_any-map}
-use Rattle.giop_sig.proofs.ListKept.{kept_by, seen}
+use Rattle.giop_sig.proofs.ListKept.{kept_of_asked, kept_view}
 
 -- ---- the ids with one more entry
 
 -- whether an id is another than this one
-abbrev is_other : ℕ → ℕ → Bool
+abbrev is_other : (k id : ℕ) → Bool
 is_other k id = not (eqb id k)
 
 -- the ids with this one, if it is new
-abbrev with_id : List ℕ → ℕ → List ℕ
+abbrev with_id : (ids : List ℕ) (x : ℕ) → List ℕ
 with_id ids x = cond (list_any (nat_eq x) ids) ids (ids ++ x ∷ [])
 
 any_other : (x k : ℕ) (ids : List ℕ) → eqb x k ≡ false
@@ -96,17 +96,18 @@ by_keys {X} value ((k, v) ∷ es) distinct values =
     later : (q : ℕ) (w : X) → lookup (nat_eq q) es ≡ Some w → w ≡ value q
     later q w found = by q w (eqb q k) refl found
 
-kept_one : (w : Option Asked) (asked : List Asked) → kept_by asked ≡ Some w → w ≡ the_one asked
+kept_one : (w : Option Asked) (asked : List Asked) → kept_of_asked asked ≡ Some w → w
+    ≡ common_asked asked
 kept_one w [] e = absurd cc
 kept_one w (a ∷ others) e = cc
 
 -- what is kept for the ids depends on the entries alone
 pub asked_is : (es : List Entry) (kept : List (ℕ × Option Words)) → IsDistinct nat_eq (keys_of kept)
     → keys_of kept ≡ ids_of es
-    → ((q : ℕ) → seen (lookup (nat_eq q) kept) ≡ kept_by (asked_of es q))
-    → map asked_view kept ≡ asked_by es
+    → ((q : ℕ) → kept_view (lookup (nat_eq q) kept) ≡ kept_of_asked (asked_of es q))
+    → map asked_view kept ≡ common_asked_by_id es
 asked_is es kept distinct keys looks =
-    let value : ℕ → Option Asked = λ id. the_one (asked_of es id) in
+    let value : ℕ → Option Asked = λ id. common_asked (asked_of es id) in
     let same : keys_of (map asked_view kept) ≡ keys_of kept =
     keys_of-map_values (option_map words_view) kept in
     by_keys value (map asked_view kept) (subst (IsDistinct nat_eq) (sym same) distinct)
@@ -116,8 +117,8 @@ asked_is es kept distinct keys looks =
 
 -- ---- the operations
 
-pub found_all : (find : Find) (es : List Entry) (ids : List ℕ)
-    → map (found_of find) (map (λ id. (id, the_one (asked_of es id))) ids)
+pub found_all : (find : OperationLookup) (es : List Entry) (ids : List ℕ)
+    → map (with_found_operation find) (map (λ id. (id, common_asked (asked_of es id))) ids)
     ≡ map (λ id. (id, option_map as_operation (operation_of find es id))) ids
 found_all find es [] = refl
 found_all find es (id ∷ ids) =
@@ -170,44 +171,46 @@ keys_by value [] = refl
 keys_by value (k ∷ ids) = ap (λ ks. k ∷ ks) (keys_by value ids)
 
 ids_count : (es : List Entry) (kept : List (ℕ × Option Words)) → IsDistinct nat_eq (keys_of kept)
-    → map asked_view kept ≡ asked_by es
+    → map asked_view kept ≡ common_asked_by_id es
     → length (ids_of es) ≡ distinct_count nat_eq (map (λ e. e.id) es)
 ids_count es kept distinct asked =
     let keys : keys_of kept ≡ ids_of es =
     sym (keys_of-map_values (option_map words_view) kept) ∙ ap keys_of asked
-    ∙ keys_by (λ id. the_one (asked_of es id)) (ids_of es) in
+    ∙ keys_by (λ id. common_asked (asked_of es id)) (ids_of es) in
     length-from_keys nat_eq_equiv (ids_of es) (map (λ e. e.id) es)
     (subst (IsDistinct nat_eq) keys distinct) (any_ids es)
 
 -- the operation of each id, if what is stored is that of the entries
-operation_by : (find : Find) (es : List Entry) (q : ℕ) (v : Bool)
+operation_by : (find : OperationLookup) (es : List Entry) (q : ℕ) (v : Bool)
     → list_any (nat_eq q) (map (λ e. e.id) es) ≡ v
     → option_map (λ (x : OpId). x.0)
-    (flat (cond v (Some (option_map as_operation (operation_of find es q))) None))
+    (option_flatten (cond v (Some (option_map as_operation (operation_of find es q))) None))
     ≡ operation_of find es q
 operation_by find es q true e = number_back (operation_of find es q)
 operation_by find es q false e =
-    sym (ap (λ asked. option_and_then (λ (a : Asked). find a.name a.interface) (the_one asked))
+    sym (ap (λ asked. option_and_then (λ (a : Asked). find a.name a.interface) (common_asked asked))
     (none_asked es q e))
 
 -- what is stored of a list, from what was kept and looked up
-pub found_is : (find : Find) (es : List Entry) (kept : List (ℕ × Option Words))
-    (table : List (ℕ × Option OpId)) → map asked_view kept ≡ asked_by es
-    → table ≡ map (found_of find) (map asked_view kept) → table ≡ kept_of find es
+pub found_is : (find : OperationLookup) (es : List Entry) (kept : List (ℕ × Option Words))
+    (table : List (ℕ × Option OpId)) → map asked_view kept ≡ common_asked_by_id es
+    → table ≡ map (with_found_operation find) (map asked_view kept) → table
+    ≡ operations_by_id find es
 found_is find es kept table asked is =
-    is ∙ ap (map (found_of find)) asked ∙ found_all find es (ids_of es)
+    is ∙ ap (map (with_found_operation find)) asked ∙ found_all find es (ids_of es)
 
-pub is_of : (find : Find) (es : List Entry) (kept : List (ℕ × Option Words))
+pub is_of : (find : OperationLookup) (es : List Entry) (kept : List (ℕ × Option Words))
     (table : List (ℕ × Option OpId)) → IsDistinct nat_eq (keys_of kept)
-    → map asked_view kept ≡ asked_by es → table ≡ map (found_of find) (map asked_view kept)
-    → IsOf find es table
+    → map asked_view kept ≡ common_asked_by_id es → table ≡ map (with_found_operation find)
+    (map asked_view kept)
+    → AgreesWithList find es table
 is_of find es kept table distinct asked found =
     let value : ℕ → Option OpId = λ id. option_map as_operation (operation_of find es id) in
     let is = found_is find es kept table asked found in
     record {
       operation = λ q.
           ap (λ ks. option_map (λ (x : OpId). x.0) (kept_operation ks q)) is
-          ∙ ap (λ o. option_map (λ (x : OpId). x.0) (flat o))
+          ∙ ap (λ o. option_map (λ (x : OpId). x.0) (option_flatten o))
           (lookup_by value (ids_of es) q
           ∙ ap (λ v. cond v (Some (value q)) None) (any_ids es q))
           ∙ operation_by find es q (list_any (nat_eq q) (map (λ e. e.id) es)) refl;
@@ -232,8 +235,8 @@ not_before k (x ∷ xs) ys distinct =
     ne_eqb k x (λ e. eqb-false x k (apart_from x k xs ys distinct.0) (sym e)) in
     rw apart (not_before k xs ys distinct.1)
 
-keys_found : (find : Find) (kept : List (ℕ × Option Words))
-    → keys_of (map (found_of find) (map asked_view kept)) ≡ keys_of kept
+keys_found : (find : OperationLookup) (kept : List (ℕ × Option Words))
+    → keys_of (map (with_found_operation find) (map asked_view kept)) ≡ keys_of kept
 keys_found find [] = refl
 keys_found find (e ∷ kept) = ap (λ ks. e.0 ∷ ks) (keys_found find kept)
 
@@ -243,20 +246,21 @@ operation_back None n e = ap (option_map as_operation) e
 operation_back (Some k) n e = ap (option_map as_operation) e
 
 -- the map so far and what is left, after one more id was looked up
-pub put_next : (find : Find) (kept : List (ℕ × Option Words))
+pub put_next : (find : OperationLookup) (kept : List (ℕ × Option Words))
     (table new : List (ℕ × Option OpId)) (e : ℕ × Option Words) (left : List (ℕ × Option Words))
     (o : Option OpId) → IsDistinct nat_eq (keys_of kept)
-    → table ++ map (found_of find) (map asked_view (e ∷ left))
-    ≡ map (found_of find) (map asked_view kept)
+    → table ++ map (with_found_operation find) (map asked_view (e ∷ left))
+    ≡ map (with_found_operation find) (map asked_view kept)
     → option_map (λ (x : OpId). x.0) o
     ≡ option_and_then (λ (a : Asked). find a.name a.interface) (option_map words_view e.1)
     → new ≡ insert_entry nat_eq table e.0 o
-    → new ++ map (found_of find) (map asked_view left) ≡ map (found_of find) (map asked_view kept)
+    → new ++ map (with_found_operation find) (map asked_view left) ≡ map (with_found_operation find)
+    (map asked_view kept)
 put_next find kept table new e left o distinct so_far is put =
-    let after : List (ℕ × Option OpId) = map (found_of find) (map asked_view left) in
+    let after : List (ℕ × Option OpId) = map (with_found_operation find) (map asked_view left) in
     let keys : keys_of table ++ e.0 ∷ keys_of left ≡ keys_of kept =
     sym (map-append (λ (x : ℕ × Option OpId). x.0) table
-    (map (found_of find) (map asked_view (e ∷ left)))
+    (map (with_found_operation find) (map asked_view (e ∷ left)))
     ∙ ap (λ ks. keys_of table ++ ks) (keys_found find (e ∷ left)))
     ∙ ap keys_of so_far ∙ keys_found find kept in
     let none : list_any (nat_eq e.0) (keys_of table) ≡ false =

@@ -4,10 +4,10 @@ use Rattle.std.proofs.lemmas.Bool.{eqb-false}
 use Rattle.giop_tokens.specs.declared.marks.Mark.{Mark}
 use Rattle.giop_tokens.proofs.ReaderLaws.{ok_is}
 use Rattle.giop_tokens.specs.Marks.{mark_of}
-use Rattle.giop_tokens.specs.Tokens.{Token, word, number, negative, repository, mark, is_word, is_id, run, past, number_of, word_token, below_zero, repository_token, as_token, first, next}
+use Rattle.giop_tokens.specs.Tokens.{Token, word, number, negative, repository, mark, is_word_octet, is_id_octet, front_run, after_run, number_of, word_token, negative_token, repository_token, token_or_refusal, first, next}
 
 as_token_is : (text : List ℕ) (o : Option Token) (rest after : List ℕ) (t : Token)
-    → as_token text o rest ≡ Ok (Some t, after) → o ≡ Some t
+    → token_or_refusal text o rest ≡ Ok (Some t, after) → o ≡ Some t
 as_token_is text None rest after t e = absurd cc
 as_token_is text (Some s) rest after t e = search (arith, ok_is)
 
@@ -25,7 +25,7 @@ above_by : (k n : ℕ) (v : Bool) → eqb k 0 ≡ v
 above_by k n true p e = absurd cc
 above_by k n false p e = search (arith, eqb-false)
 
-above_zero : (o : Option ℕ) (n : ℕ) → below_zero o ≡ Some (negative n) → 0 < n
+above_zero : (o : Option ℕ) (n : ℕ) → negative_token o ≡ Some (negative n) → 0 < n
 above_zero None n e = absurd cc
 above_zero (Some k) n e = above_by k n (eqb k 0) refl e
 
@@ -39,10 +39,14 @@ mark_by None n e = absurd cc
 mark_by (Some m) n e = absurd cc
 
 octet_by : (b : ℕ) (bs rest : List ℕ) (n : ℕ) (x y z : Bool)
-    → cond x (as_token (b ∷ bs) (word_token (run is_word (b ∷ bs))) (past is_word (b ∷ bs)))
-    (cond y (as_token (b ∷ bs) (below_zero (number_of (run is_word bs))) (past is_word bs))
-    (cond z (as_token (b ∷ bs) (repository_token (run is_id bs) (past is_id bs))
-    (drop 1 (past is_id bs))) (as_token (b ∷ bs) (option_map mark (mark_of b)) bs)))
+    → cond x (token_or_refusal (b ∷ bs) (word_token (front_run is_word_octet (b ∷ bs)))
+    (after_run is_word_octet (b ∷ bs)))
+    (cond y (token_or_refusal (b ∷ bs) (negative_token (number_of (front_run is_word_octet bs)))
+    (after_run is_word_octet bs))
+    (cond z (token_or_refusal (b ∷ bs) (repository_token (front_run is_id_octet bs)
+    (after_run is_id_octet bs))
+    (drop 1 (after_run is_id_octet bs))) (token_or_refusal (b ∷ bs)
+    (option_map mark (mark_of b)) bs)))
     ≡ Ok (Some (negative n), rest) → 0 < n
 octet_by b bs rest n true y z e = search (arith, word_by, slice_index, as_token_is)
 octet_by b bs rest n false true z e = search (arith, above_zero, as_token_is)

@@ -6,13 +6,13 @@ use Rattle.std.specs.Option.{option_map}
 use Rattle.giop_cdr.specs.declared.number.Number.{Number}
 use Rattle.giop_sig.specs.declared.types.Shape.{Shape}
 use Rattle.giop_sig.specs.declared.types.Shape.TheVariants as shapes
-use Rattle.giop_sig.specs.Types.{Cases, Enum, Ty, Single, Struct, Union, Sequence, Array, IsUnion, shape_in, HasShape, HasMember, HasIndex, HasInner, part_of, name_in, enum_name_in, switch_of, select_in, interpreted_in, Tag, Encapsulation, Recursive, Led, Octets, Raw}
+use Rattle.giop_sig.specs.Types.{Cases, Enum, Ty, Single, Struct, Union, Sequence, Array, IsUnion, shape_in, HasShape, HasMember, HasIndex, HasSmallerPart, part_of, name_in, enum_name_in, switch_of, select_in, interpreted_in, Tag, Encapsulation, Recursive, Led, Octets, Raw}
 use Rattle.giop_sig.specs.Table.{Node, Part, Case, TakesOctet, shape_of, part_at, switch_at, type_of, name_of, name_at, selected, case_part}
 use Rattle.giop_sig.specs.Table as nodes
-use Rattle.giop_sig.specs.Trees.{Room, grow, in_room, name_or, wide_room}
+use Rattle.giop_sig.specs.Trees.{PartLimits, tree_of_node, node_in_room, name_or, parameters_room}
 
-pub shape_grown : (h : Room) (tree : ℕ → Ty) (node : Node)
-    → shape_in (grow h tree node) ≡ shape_of node
+pub shape_grown : (h : PartLimits) (tree : ℕ → Ty) (node : Node)
+    → shape_in (tree_of_node h tree node) ≡ shape_of node
 shape_grown h tree (nodes.prim p) = refl
 shape_grown h tree _ = refl
 
@@ -41,12 +41,13 @@ case_below (c ∷ cs) zero lt = (c.part, refl)
 case_below (c ∷ cs) (suc i) lt = case_below cs i (omega arith)
 
 -- a part with a smaller number is at an index of the shape
-pub shape_index : (s : Shape) (i : ℕ) → HasInner s i → HasIndex s i
+pub shape_index : (s : Shape) (i : ℕ) → HasSmallerPart s i → HasIndex s i
 shape_index shapes.Led i has = tt
 shape_index (shapes.Recursive bound) i has = tt
 shape_index _ i has = has
 
-pub inner_index : (node : Node) (i : ℕ) → HasInner (shape_of node) i → HasIndex (shape_of node) i
+pub inner_index : (node : Node) (i : ℕ) → HasSmallerPart (shape_of node) i → HasIndex
+    (shape_of node) i
 inner_index (nodes.any code) i has = tt
 inner_index (nodes.recursive bound element) i has = tt
 inner_index _ i has = has
@@ -67,8 +68,8 @@ part_there (nodes.typecode wide kind cases) i has = let p = case_below cases i h
     (nodes.narrow_part wide p.0, ap (option_map (nodes.narrow_part wide)) p.1)
 part_there _ i has = absurd has
 
-pub part_grown : (h : Room) (tree : ℕ → Ty) (node : Node) (i : ℕ) → HasIndex (shape_of node) i
-    → tree (type_of (part_at node i)) ≡ part_of (grow h tree node) i
+pub part_grown : (h : PartLimits) (tree : ℕ → Ty) (node : Node) (i : ℕ) → HasIndex (shape_of node) i
+    → tree (type_of (part_at node i)) ≡ part_of (tree_of_node h tree node) i
 part_grown h tree (nodes.members parts) i has = let p = read_below parts i has in rw (p.1) refl
 part_grown h tree (nodes.union switch cases otherwise) i has = let p = case_below cases i has in
     rw (p.1) refl
@@ -84,8 +85,9 @@ part_grown h tree (nodes.typecode wide kind cases) i has = let p = case_below ca
     rw (p.1) refl
 part_grown h tree _ i has = absurd has
 
-pub name_grown : (h : Room) (tree : ℕ → Ty) (node : Node) (i : ℕ) → HasMember (shape_of node) i
-    → name_of (part_at node i) ≡ name_in (grow h tree node) i
+pub name_grown : (h : PartLimits) (tree : ℕ → Ty) (node : Node) (i : ℕ) → HasMember
+    (shape_of node) i
+    → name_of (part_at node i) ≡ name_in (tree_of_node h tree node) i
 name_grown h tree (nodes.members parts) i has = refl
 name_grown h tree (nodes.union switch cases otherwise) i has = refl
 name_grown h tree (nodes.tagged special tag inner other) i has = refl
@@ -103,15 +105,15 @@ names_read [] n = search (arith, le-ltb)
 names_read (x ∷ xs) zero = search (arith, lt-ltb)
 names_read (x ∷ xs) (suc n) = search (arith, cond, ltb_suc_by, nat_lt, names_read xs n)
 
-pub enum_name_grown : (h : Room) (tree : ℕ → Ty) (node : Node) (n : ℕ)
-    → name_at node n ≡ enum_name_in (grow h tree node) n
+pub enum_name_grown : (h : PartLimits) (tree : ℕ → Ty) (node : Node) (n : ℕ)
+    → name_at node n ≡ enum_name_in (tree_of_node h tree node) n
 enum_name_grown h tree (nodes.enumeration names) n = names_read names n
 enum_name_grown h tree _ n = refl
 
 -- a value that the octets spell selects what their whole number does
-pub select_grown : (h : Room) (tree : ℕ → Ty) (node : Node) (number : Number) (n : ℕ)
-    → interpreted_in (switch_of (grow h tree node)) n ≡ Some number
-    → selected node number ≡ select_in (grow h tree node) n
+pub select_grown : (h : PartLimits) (tree : ℕ → Ty) (node : Node) (number : Number) (n : ℕ)
+    → interpreted_in (switch_of (tree_of_node h tree node)) n ≡ Some number
+    → selected node number ≡ select_in (tree_of_node h tree node) n
 select_grown h tree (nodes.union switch cases otherwise) number n e = search (arith)
 select_grown h tree (nodes.tagged special tag inner other) number n e = search (arith)
 select_grown h tree (nodes.typecode wide kind cases) number n e = search (arith)
@@ -119,7 +121,7 @@ select_grown h tree _ number n e = refl
 
 -- ---- a node in a room: all stays, apart from the types of a TypeCode's parts
 
-pub in_shape : (room : ℕ) (node : Node) → shape_of (in_room room node) ≡ shape_of node
+pub in_shape : (room : ℕ) (node : Node) → shape_of (node_in_room room node) ≡ shape_of node
 in_shape room (nodes.typecode wide kind cases) = refl
 in_shape room _ = refl
 
@@ -129,26 +131,27 @@ narrow_name a b None = refl
 narrow_name a b (Some p) = refl
 
 pub in_name : (room : ℕ) (node : Node) (i : ℕ)
-    → name_of (part_at (in_room room node) i) ≡ name_of (part_at node i)
+    → name_of (part_at (node_in_room room node) i) ≡ name_of (part_at node i)
 in_name room (nodes.typecode wide kind cases) i =
-    narrow_name (cond (nat_lt room wide_room) wide None) wide (case_part (slice_get cases i))
+    narrow_name (cond (nat_lt room parameters_room) wide None) wide (case_part (slice_get cases i))
 in_name room _ i = refl
 
-pub in_enum_name : (room : ℕ) (node : Node) (n : ℕ) → name_at (in_room room node) n ≡ name_at node n
+pub in_enum_name : (room : ℕ) (node : Node) (n : ℕ) → name_at (node_in_room room node) n
+    ≡ name_at node n
 in_enum_name room (nodes.typecode wide kind cases) n = refl
 in_enum_name room _ n = refl
 
-pub in_switch : (room : ℕ) (node : Node) → switch_at (in_room room node) ≡ switch_at node
+pub in_switch : (room : ℕ) (node : Node) → switch_at (node_in_room room node) ≡ switch_at node
 in_switch room (nodes.typecode wide kind cases) = refl
 in_switch room _ = refl
 
 pub in_selected : (room : ℕ) (node : Node) (number : Number)
-    → selected (in_room room node) number ≡ selected node number
+    → selected (node_in_room room node) number ≡ selected node number
 in_selected room (nodes.typecode wide kind cases) number = refl
 in_selected room _ number = refl
 
 -- nodes other than unions keep all parts
 pub in_part : (room : ℕ) (node : Node) (i : ℕ) → (IsUnion (shape_of node) → ⊥)
-    → part_at (in_room room node) i ≡ part_at node i
+    → part_at (node_in_room room node) i ≡ part_at node i
 in_part room (nodes.typecode wide kind cases) i none = absurd (none tt)
 in_part room _ i none = refl

@@ -5,17 +5,17 @@ use Rattle.giop_tokens.specs.declared.fault.TokenError.{TokenError}
 use Rattle.giop_tokens.specs.declared.fault.SigFaultKind.TheVariants as kinds
 use Rattle.giop_sig.specs.Grammar.{Declaration, SignatureFile}
 use Rattle.giop_sig.specs.Scopes.{Scope, first_scope, declare, scope_after, table}
-use Rattle.giop_sig.specs.Validity.{FaultKind, Each, IsValid, SpellsUpTo}
+use Rattle.giop_sig.specs.Validity.{FaultKind, EachInItsScope, IsValid, SpellsUpTo}
 use Rattle.giop_sig.specs.FileReading.{file_at}
-use Rattle.giop_sig.proofs.FileLaws.{BrokenIn, RefusedFile, WholeFile, WholeOut, file_reads}
+use Rattle.giop_sig.proofs.FileLaws.{BrokenIn, RefusedFile, WholeFile, IsWholeFileOrRefusal, file_reads}
 use Rattle.giop_sig.proofs.FileRules.{not_too_many}
 use Rattle.giop_sig.proofs.UnionWhole.{union_read}
 
 -- a rule that is true of each declaration is true of the one after these
 each_at : (R : Scope → Declaration → Type 0) (s : Scope) (ds before after : List Declaration)
     (d : Declaration)
-    → ds ≡ before ++ d ∷ after → Each R s ds → R (scope_after s before) d
-unfolding Each
+    → ds ≡ before ++ d ∷ after → EachInItsScope R s ds → R (scope_after s before) d
+unfolding EachInItsScope
 each_at R s [] [] after d is each = absurd cc
 each_at R s [] (b ∷ before) after d is each = absurd cc
 each_at R s (e ∷ es) [] after d is each = search (arith)
@@ -47,7 +47,8 @@ read_table : {latest : ℕ} (text : List ℕ) (t : Scope) (file : SignatureFile)
     → SpellsUpTo latest text file → file_at latest text ≡ Ok t
     → t.table ≡ table file
 read_table text t file spells e =
-    let out : WholeFile file t = subst (WholeOut file) e (file_reads union_read text file spells) in
+    let out : WholeFile file t = subst (IsWholeFileOrRefusal file) e
+    (file_reads union_read text file spells) in
     ap (λ (x : Scope). x.table) out.is
 
 table_by : {latest : ℕ} (text : List ℕ) (f g : SignatureFile)
@@ -56,7 +57,7 @@ table_by : {latest : ℕ} (text : List ℕ) (f g : SignatureFile)
 table_by text f g spells valid others (Ok t) e = search (arith, read_table)
 table_by text f g spells valid others (Err why) e =
     absurd (not_refused why text f spells valid
-    (subst (WholeOut f) e (file_reads union_read text f spells)))
+    (subst (IsWholeFileOrRefusal f) e (file_reads union_read text f spells)))
 
 pub one_table : (latest : ℕ) (text : List ℕ) (f g : SignatureFile)
     → SpellsUpTo latest text f → IsValid f → SpellsUpTo latest text g

@@ -3,29 +3,30 @@
 use Rattle.std.proofs.Common.{arith, ◌≡◌, ℕ, suc, ◌<◌, ◌≤◌, length, refl, sym, ap, subst, ◌∙◌}
 use Rattle.std.proofs.lemmas.Bool.{cases_lt}
 use Rattle.giop_sig.specs.Fits.{IsFit, IsRoot}
-use Rattle.giop_sig.specs.HeaderTypes.{ArePlain, IsTable}
+use Rattle.giop_sig.specs.HeaderTypes.{AreBeforeVersion3, IsTable}
 use Rattle.giop_sig.specs.Table.{Node, Table, name_of, node_at, part_at, part_number, switch_at, type_of}
-use Rattle.giop_sig.specs.Trees.{in_room, part_number_in, tree, tree_at, depth_of}
-use Rattle.giop_sig.specs.Types.{Ty, HasIndex, HasInner, HasShape, IsUnion, depth, part_of, shape_in, switch_of}
+use Rattle.giop_sig.specs.Trees.{node_in_room, part_number_in, tree, tree_at, depth_of}
+use Rattle.giop_sig.specs.Types.{Ty, HasIndex, HasSmallerPart, HasShape, IsUnion, depth, part_of, shape_in, switch_of}
 use Rattle.giop_sig.specs.declared.types.Shape.{Shape}
 use Rattle.giop_sig.specs.declared.types.Shape.TheVariants as shapes
 use Rattle.giop_sig.proofs.Depths.{depth_tree, depth_within}
 use Rattle.giop_sig.proofs.Nodes.{has_shape, in_name, in_part, shape_index}
 use Rattle.giop_sig.proofs.Solid.{fit_in_room}
-use Rattle.giop_sig.proofs.Tables.{Entered, entered, part_below, part_in_room, part_known_in, part_room, root_entered, shape_at, switch_room}
+use Rattle.giop_sig.proofs.Tables.{IsNodeOfType, entered, part_below, part_in_room, part_known_in, part_room, root_entered, shape_at, switch_room}
 
 -- the part at an index has a smaller number, and its tree is that of the part, in one level of room
 -- less
-pub record PartIs (t : Table) (id i part : ℕ) : Type 0 where
+pub record IsPartTypeAt (t : Table) (id i part : ℕ) : Type 0 where
   pub below : part < id
   pub same : (room : ℕ) → tree_at t room part ≡ part_of (tree_at t (suc room) id) i
 
-at_number : (t : Table) (id : ℕ) → IsTable t → id < length t.types → Entered t id (node_at t id)
+at_number : (t : Table) (id : ℕ) → IsTable t → id < length t.types → IsNodeOfType t id
+    (node_at t id)
 at_number t id laws known = search (arith, entered)
 
 pub part_is : (t : Table) (id i : ℕ) → IsTable t → id < length t.types
-    → (IsUnion (shape_in (tree t id)) → ⊥) → HasInner (shape_in (tree t id)) i
-    → PartIs t id i (part_number t id i)
+    → (IsUnion (shape_in (tree t id)) → ⊥) → HasSmallerPart (shape_in (tree t id)) i
+    → IsPartTypeAt t id i (part_number t id i)
 part_is t id i laws known none has =
     let e = at_number t id laws known in
     let index = shape_index (shape_in (tree t id)) i has in
@@ -60,13 +61,13 @@ same_number t a room id i none =
 
 -- the names of parts are the same in any room
 pub named_in_room : (room : ℕ) (node : Node) (i : ℕ)
-    → name_of (part_at (in_room room node) i) ≡ name_of (part_at node i)
+    → name_of (part_at (node_in_room room node) i) ≡ name_of (part_at node i)
 named_in_room room node i = in_name room node i
 
 pub root_is : (t : Table) (id : ℕ) → IsTable t → id < length t.types → IsRoot (tree t id)
 root_is t id laws known = search (arith, root_entered, at_number)
 
-pub depth_is : (t : Table) (id : ℕ) → ArePlain t.types → id < length t.types
+pub depth_is : (t : Table) (id : ℕ) → AreBeforeVersion3 t.types → id < length t.types
     → depth (tree t id) ≤ depth_of t.types
 depth_is t id plain known = omega (arith, depth_tree t id plain, depth_within t.types id known)
 

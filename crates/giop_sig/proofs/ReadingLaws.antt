@@ -12,25 +12,26 @@ use Rattle.giop_tokens.proofs.ReaderLaws.{if_ended, if_other}
 use Rattle.giop_sig.specs.Table.{Node}
 use Rattle.giop_sig.specs.Trees.{depth_of}
 use Rattle.giop_sig.specs.Validity.{FaultKind}
-use Rattle.giop_sig.proofs.AddTypeLaws.{Within, within_same}
+use Rattle.giop_sig.proofs.AddTypeLaws.{HasNoFewerNodes, within_same}
 
 -- ---- a text that is spelled so
 
 -- a refusal of this kind is right: the rule of the kind is broken, or the types become too deep or
 -- too many
-abbrev pub Breaks : FaultKind → (FaultKind → Type 0) → List Node → Type 0
-Breaks kinds.Depth rule types = 24 < depth_of types
-Breaks kinds.UnknownType rule types = rule kinds.UnknownType → ⊥
-Breaks kinds.Duplicate rule types = rule kinds.Duplicate → ⊥
-Breaks kinds.Limit rule types = (rule kinds.Limit → ⊥) ⊎ (2 ^ 32 ≤ length types)
-Breaks kinds.Label rule types = rule kinds.Label → ⊥
-Breaks kinds.Empty rule types = rule kinds.Empty → ⊥
-Breaks _ rule types = ⊥
+abbrev pub BreaksRuleOf : (kind : FaultKind) (rule : FaultKind → Type 0) (types : List Node)
+    → Type 0
+BreaksRuleOf kinds.Depth rule types = 24 < depth_of types
+BreaksRuleOf kinds.UnknownType rule types = rule kinds.UnknownType → ⊥
+BreaksRuleOf kinds.Duplicate rule types = rule kinds.Duplicate → ⊥
+BreaksRuleOf kinds.Limit rule types = (rule kinds.Limit → ⊥) ⊎ (2 ^ 32 ≤ length types)
+BreaksRuleOf kinds.Label rule types = rule kinds.Label → ⊥
+BreaksRuleOf kinds.Empty rule types = rule kinds.Empty → ⊥
+BreaksRuleOf _ rule types = ⊥
 
 -- a rule that a part breaks, the whole breaks
 pub lift : (k : FaultKind) (rule whole : FaultKind → Type 0) (types more : List Node)
-    → ((j : FaultKind) → whole j → rule j) → Within types more
-    → Breaks k rule types → Breaks k whole more
+    → ((j : FaultKind) → whole j → rule j) → HasNoFewerNodes types more
+    → BreaksRuleOf k rule types → BreaksRuleOf k whole more
 lift kinds.Token rule whole types more up le b = b
 lift kinds.Syntax rule whole types more up le b = b
 lift kinds.OutOfMemory rule whole types more up le b = b
@@ -43,7 +44,7 @@ lift kinds.Label rule whole types more up le b = λ h. b (up kinds.Label h)
 lift kinds.Empty rule whole types more up le b = λ h. b (up kinds.Empty h)
 
 -- what was read is made from a rest that has the remaining tokens, and it keeps the rules
-pub record Good {X : Type 0} (made : List ℕ → X) (rule : FaultKind → Type 0)
+pub record IsMadeByRules {X : Type 0} (made : List ℕ → X) (rule : FaultKind → Type 0)
     (more : List Token) (x : X) : Type 0 where
   pub rest : List ℕ
   pub is : x ≡ made rest
@@ -51,38 +52,40 @@ pub record Good {X : Type 0} (made : List ℕ → X) (rule : FaultKind → Type 
   pub keeps : (k : FaultKind) → rule k
 
 -- reading gives what is made, or a rule that is broken
-pub record Out {X : Type 0} (made : List ℕ → X) (rule : FaultKind → Type 0) (types : List Node)
+pub record IsMadeOrBreaksRule {X : Type 0} (made : List ℕ → X) (rule : FaultKind → Type 0)
+    (types : List Node)
     (more : List Token) (r : Result X TokenError) : Type 0 where
-  pub out : MatchResult r (Good made rule more) (λ e. Breaks e.kind rule types)
+  pub out : MatchResult r (IsMadeByRules made rule more) (λ e. BreaksRuleOf e.kind rule types)
 
 pub good : {X : Type 0} {made : List ℕ → X} {rule : FaultKind → Type 0} {types : List Node}
     {more : List Token} (rest : List ℕ) → AreTokens rest more → ((k : FaultKind) → rule k)
-    → Out made rule types more (Ok (made rest))
+    → IsMadeOrBreaksRule made rule types more (Ok (made rest))
 good rest tokens keeps = search (arith)
 
 pub broken : {X : Type 0} {made : List ℕ → X} {rule : FaultKind → Type 0} {types : List Node}
-    {more : List Token} (e : TokenError) → Breaks e.kind rule types →
-    Out made rule types more (Err e)
+    {more : List Token} (e : TokenError) → BreaksRuleOf e.kind rule types →
+    IsMadeOrBreaksRule made rule types more (Err e)
 broken e b = record { out = b }
 
 pub out_bind : {X Y : Type 0} {made : List ℕ → X} {rule : FaultKind → Type 0} {types : List Node}
     {more : List Token} {made2 : List ℕ → Y} {rule2 : FaultKind → Type 0}
     {types2 : List Node} {more2 : List Token}
-    (r : Result X TokenError) (h : X → Result Y TokenError) → Out made rule types more r
+    (r : Result X TokenError) (h : X → Result Y TokenError) → IsMadeOrBreaksRule made rule types
+    more r
     → ((rest : List ℕ) → AreTokens rest more → ((k : FaultKind) → rule k)
-    → Out made2 rule2 types2 more2 (h (made rest)))
-    → ((k : FaultKind) → rule2 k → rule k) → Within types types2 →
-    Out made2 rule2 types2 more2 (r >>= h)
+    → IsMadeOrBreaksRule made2 rule2 types2 more2 (h (made rest)))
+    → ((k : FaultKind) → rule2 k → rule k) → HasNoFewerNodes types types2 →
+    IsMadeOrBreaksRule made2 rule2 types2 more2 (r >>= h)
 out_bind {made2 = made2} {rule2 = rule2} {types2 = types2} {more2 = more2} (Ok x) h o on up le =
-    let g = o.out in subst (λ y. Out made2 rule2 types2 more2 (h y)) (sym g.is)
+    let g = o.out in subst (λ y. IsMadeOrBreaksRule made2 rule2 types2 more2 (h y)) (sym g.is)
     (on g.rest g.tokens g.keeps)
 out_bind {rule = rule} {types = types} {rule2 = rule2} {types2 = types2} (Err e) h o on up le =
     record { out = lift e.kind rule rule2 types types2 up le o.out }
 
 good_more : {X : Type 0} {made : List ℕ → X} {rule whole : FaultKind → Type 0} {types : List Node}
-    {more : List Token} (r : Result X TokenError) → Out made rule types more r
+    {more : List Token} (r : Result X TokenError) → IsMadeOrBreaksRule made rule types more r
     → ((k : FaultKind) → rule k → whole k) → ((k : FaultKind) → whole k → rule k)
-    → Out made whole types more r
+    → IsMadeOrBreaksRule made whole types more r
 good_more (Ok x) o on up = search (arith)
 good_more {rule = rule} {whole = whole} {types = types} (Err e) o on up =
     record { out = lift e.kind rule whole types types up within_same o.out }
@@ -90,15 +93,15 @@ good_more {rule = rule} {whole = whole} {types = types} (Err e) o on up =
 -- the same for equivalent rules
 pub out_more : {X : Type 0} {made : List ℕ → X} {rule whole : FaultKind →
     Type 0} {types : List Node}
-    {more : List Token} {r : Result X TokenError} → Out made rule types more r
+    {more : List Token} {r : Result X TokenError} → IsMadeOrBreaksRule made rule types more r
     → ((k : FaultKind) → rule k → whole k) → ((k : FaultKind) → whole k → rule k)
-    → Out made whole types more r
+    → IsMadeOrBreaksRule made whole types more r
 out_more {r = r} o on up = good_more r o on up
 
 -- ---- a text that was read
 
 -- the text is spelled like this up to the rest, and its names are free
-pub record Took (spelled : List Token → List Token) (Free : Type 0)
+pub record SpellsUpTo (spelled : List Token → List Token) (Free : Type 0)
     (text rest : List ℕ) : Type 0 where
   pub free : Free
   pub front : (more : List Token) → AreTokens rest more → AreTokens text (spelled more)
@@ -106,11 +109,12 @@ pub record Took (spelled : List Token → List Token) (Free : Type 0)
 -- ---- looking at the next token
 
 -- the tokens don't begin with the mark
-abbrev pub Apart : Mark → List Token → Type 0
-Apart m [] = Unit {0}
-Apart m (t ∷ ts) = is_the_mark m t ≡ false
+abbrev pub BeginsWithoutMark : (mark : Mark) (tokens : List Token) → Type 0
+BeginsWithoutMark m [] = Unit {0}
+BeginsWithoutMark m (t ∷ ts) = is_the_mark m t ≡ false
 
-pub if_apart : (m : Mark) (text : List ℕ) (ts : List Token) → Apart m ts → AreTokens text ts
+pub if_apart : (m : Mark) (text : List ℕ) (ts : List Token) → BeginsWithoutMark m ts
+    → AreTokens text ts
     → mark_if m text ≡ Ok None
 if_apart m text [] apart h = search (arith, if_ended)
 if_apart m text (t ∷ ts) apart h = search (arith, if_other)

@@ -3,7 +3,7 @@ use Rattle.std.proofs.Common.{◌≡◌, ℕ, suc, ◌+◌, ◌-◌, ◌<◌, �
 use Rattle.giop_tokens.specs.declared.fault.TokenError.{TokenError}
 use Rattle.giop_sig.specs.declared.parse_stop.ParseError.{ParseError}
 use Rattle.giop_sig.specs.declared.parse_stop.ParseError.TheVariants as stops
-use Rattle.giop_sig.specs.Outcomes.{Stops}
+use Rattle.giop_sig.specs.Outcomes.{StopsAsRead}
 use Rattle.giop_tokens.specs.Reading.{◌>>=◌}
 use Rattle.giop_sig.specs.Repeats.{in_steps}
 
@@ -24,7 +24,7 @@ module _ {S : Type 0} (step : S → Result (Bool × S) TokenError) (limit : S �
   unfolding in_steps
   ends lt x h c = search (arith)
 
-  pub fails : i < most → (e : ParseError) → Stops e (step s) → Stops e total
+  pub fails : i < most → (e : ParseError) → StopsAsRead e (step s) → StopsAsRead e total
   unfolding in_steps
   fails lt stops.Memory h = tt
   fails lt (stops.Refused r) h =
@@ -39,7 +39,7 @@ module _ {S : Type 0} (step : S → Result (Bool × S) TokenError) (limit : S �
 -- what stops a reading stops what is made of it
 pub stops_on : {X Y : Type 0} (e : ParseError) (r : Result X TokenError) (f : X →
     Result Y TokenError)
-    → Stops e r → Stops e (r >>= f)
+    → StopsAsRead e r → StopsAsRead e (r >>= f)
 stops_on stops.Memory r f h = tt
 stops_on (stops.Refused q) r f h = ap (λ x. x >>= f) h
 

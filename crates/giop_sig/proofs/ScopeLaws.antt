@@ -16,11 +16,11 @@ use Rattle.giop_sig.specs.Interfaces.{Interfaces}
 use Rattle.giop_sig.specs.AnyTypes.{first_types}
 use Rattle.giop_sig.specs.Table.{Node, Table}
 use Rattle.giop_sig.specs.Table as nodes
-use Rattle.giop_sig.specs.Trees.{depth_of, AreFormed, AreSettled}
+use Rattle.giop_sig.specs.Trees.{depth_of, AreFormed, AreResolved}
 use Rattle.giop_sig.specs.HeaderTypes.{IsAddable, KnowsAnys, TableOf, IsTable}
-use Rattle.giop_sig.specs.RequestList.{flat}
+use Rattle.giop_sig.specs.RequestList.{option_flatten}
 use Rattle.giop_sig.specs.Scopes.{Announced, Scope, announced_as, named, with_announced, with_node, with_name}
-use Rattle.giop_sig.specs.ScopeViews.{announced_view, announcement_view, key_is, name_view, number_of_id, scope_view, IsAnnounced, IsAnnouncedName, IsKnown, IsKnownType, IsDeclaredName, IsScope, IsDraft}
+use Rattle.giop_sig.specs.ScopeViews.{announced_view, announcement_view, same_key_octets, name_view, number_of_id, scope_view, IsAnnounced, IsAnnouncedName, IsKnown, IsKnownType, IsDeclaredName, IsScope, IsDraft}
 
 -- ---- look-ups
 
@@ -31,7 +31,7 @@ cond_map f false x o = refl
 
 view_found : (key : ArrayVec ℕ) (es : List (ArrayVec ℕ × Option TypeId))
     → lookup (bytes_eq key.items) (map name_view es)
-    ≡ option_map number_of_id (lookup (key_is key) es)
+    ≡ option_map number_of_id (lookup (same_key_octets key) es)
 view_found key [] = refl
 view_found key (e ∷ es) = search (arith, cond, cond_map, view_found key es)
 
@@ -39,7 +39,8 @@ pub some_map : {X Y : Type 0} (f : X → Y) (o : Option X) → is_some (option_m
 some_map f None = refl
 some_map f (Some x) = refl
 
-flat_map : (o : Option (Option TypeId)) → number_of_id (flat o) ≡ flat (option_map number_of_id o)
+flat_map : (o : Option (Option TypeId)) → number_of_id (option_flatten o) ≡ option_flatten
+    (option_map number_of_id o)
 flat_map None = refl
 flat_map (Some t) = refl
 
@@ -47,35 +48,36 @@ flat_map (Some t) = refl
 pub name_found : (s : Scope) (version : ℕ) (t : Table) (es : List (ArrayVec ℕ × Option TypeId))
     (xs : List (ArrayVec ℕ × Announcement)) (key : ArrayVec ℕ) (w : List ℕ)
     → scope_view version t es xs ≡ s → key.items ≡ w
-    → lookup (bytes_eq w) s.names.known ≡ option_map number_of_id (lookup (key_is key) es)
+    → lookup (bytes_eq w) s.names.known ≡ option_map number_of_id (lookup (same_key_octets key) es)
 name_found s version t es xs key w view same = search (arith, map, view_found)
 
 pub name_declared : (s : Scope) (version : ℕ) (t : Table) (es : List (ArrayVec ℕ × Option TypeId))
     (xs : List (ArrayVec ℕ × Announcement)) (key : ArrayVec ℕ) (w : List ℕ)
     → scope_view version t es xs ≡ s → key.items ≡ w
-    → is_some (lookup (key_is key) es) ≡ is_some (lookup (bytes_eq w) s.names.known)
+    → is_some (lookup (same_key_octets key) es) ≡ is_some (lookup (bytes_eq w) s.names.known)
 name_declared s version t es xs key w view same =
-    sym (some_map number_of_id (lookup (key_is key) es))
+    sym (some_map number_of_id (lookup (same_key_octets key) es))
     ∙ ap is_some (sym (name_found s version t es xs key w view same))
 
 pub name_typed : (s : Scope) (version : ℕ) (t : Table) (es : List (ArrayVec ℕ × Option TypeId))
     (xs : List (ArrayVec ℕ × Announcement)) (key : ArrayVec ℕ) (w : List ℕ)
     → scope_view version t es xs ≡ s → key.items ≡ w
-    → number_of_id (flat (lookup (key_is key) es)) ≡ named s.names w
+    → number_of_id (option_flatten (lookup (same_key_octets key) es)) ≡ named s.names w
 name_typed s version t es xs key w view same =
-    flat_map (lookup (key_is key) es) ∙ ap flat (sym (name_found s version t es xs key w view same))
+    flat_map (lookup (same_key_octets key) es) ∙ ap option_flatten
+    (sym (name_found s version t es xs key w view same))
 
 -- how a name is announced
 announced_found : (key : ArrayVec ℕ) (xs : List (ArrayVec ℕ × Announcement))
     → lookup (bytes_eq key.items) (map announced_view xs)
-    ≡ option_map announcement_view (lookup (key_is key) xs)
+    ≡ option_map announcement_view (lookup (same_key_octets key) xs)
 announced_found key [] = refl
 announced_found key (e ∷ es) = search (arith, cond, cond_map, announced_found key es)
 
 pub name_announced : (s : Scope) (version : ℕ) (t : Table)
     (es : List (ArrayVec ℕ × Option TypeId)) (xs : List (ArrayVec ℕ × Announcement))
     (key : ArrayVec ℕ) (w : List ℕ) → scope_view version t es xs ≡ s → key.items ≡ w
-    → option_map announcement_view (lookup (key_is key) xs) ≡ announced_as s.names w
+    → option_map announcement_view (lookup (same_key_octets key) xs) ≡ announced_as s.names w
 name_announced s version t es xs key w view same =
     sym (announced_found key xs)
     ∙ ap (λ n. lookup (bytes_eq n) (map announced_view xs)) same
@@ -194,7 +196,7 @@ draft_fronts s fs is anys = record {
 }
 
 -- a draft that is complete is the table of a catalogue
-pub whole : (t : Table) → TableOf AreFormed t → depth_of t.types ≤ 24 → AreSettled t.types
+pub whole : (t : Table) → TableOf AreFormed t → depth_of t.types ≤ 24 → AreResolved t.types
     → IsTable t
 whole t is shallow settled = search (arith)
 
@@ -205,18 +207,19 @@ some_copied (Some x) = refl
 -- ---- one more name
 
 none_by : {V : Type 0} (key : ArrayVec ℕ) (e : ArrayVec ℕ × V) (es : List (ArrayVec ℕ × V))
-    (v : Bool) → key_is key e.0 ≡ v → cond v (Some e.1) (lookup (key_is key) es) ≡ None
-    → (lookup (key_is key) es ≡ None
-    → list_any (λ (x : ArrayVec ℕ × V). key_is key x.0) es ≡ false)
-    → (v || list_any (λ (x : ArrayVec ℕ × V). key_is key x.0) es) ≡ false
+    (v : Bool) → same_key_octets key e.0 ≡ v → cond v (Some e.1) (lookup (same_key_octets key) es)
+    ≡ None
+    → (lookup (same_key_octets key) es ≡ None
+    → list_any (λ (x : ArrayVec ℕ × V). same_key_octets key x.0) es ≡ false)
+    → (v || list_any (λ (x : ArrayVec ℕ × V). same_key_octets key x.0) es) ≡ false
 none_by key e es true same h on = absurd cc
 none_by key e es false same h on = on h
 
 pub none_found : {V : Type 0} (key : ArrayVec ℕ) (es : List (ArrayVec ℕ × V))
-    → lookup (key_is key) es ≡ None
-    → list_any (λ (x : ArrayVec ℕ × V). key_is key x.0) es ≡ false
+    → lookup (same_key_octets key) es ≡ None
+    → list_any (λ (x : ArrayVec ℕ × V). same_key_octets key x.0) es ≡ false
 none_found key [] h = refl
-none_found key (e ∷ es) h = none_by key e es (key_is key e.0) refl h (none_found key es)
+none_found key (e ∷ es) h = none_by key e es (same_key_octets key e.0) refl h (none_found key es)
 
 pub none_before : {X Y : Type 0} (f : X → Y) (o : Option X) → option_map f o ≡ None → o ≡ None
 none_before f None e = refl
@@ -226,14 +229,14 @@ none_before f (Some x) e = absurd cc
 pub put_name : (s : Scope) (version : ℕ) (t : Table) (es new : List (ArrayVec ℕ × Option TypeId))
     (xs : List (ArrayVec ℕ × Announcement)) (key : ArrayVec ℕ) (v : Option TypeId) (w : List ℕ)
     → scope_view version t es xs ≡ s → key.items ≡ w → lookup (bytes_eq w) s.names.known ≡ None
-    → new ≡ insert_entry key_is es key v
+    → new ≡ insert_entry same_key_octets es key v
     → scope_view version t new xs ≡ with_name s w (number_of_id v)
 put_name s version t es new xs key v w view same none is =
-    let unseen_label : lookup (key_is key) es ≡ None =
-    none_before number_of_id (lookup (key_is key) es)
+    let unseen_label : lookup (same_key_octets key) es ≡ None =
+    none_before number_of_id (lookup (same_key_octets key) es)
     (sym (name_found s version t es xs key w view same) ∙ none) in
     let last : new ≡ es ++ (key, v) ∷ [] =
-    is ∙ entry_last key_is es key v (none_found key es unseen_label) in
+    is ∙ entry_last same_key_octets es key v (none_found key es unseen_label) in
     ap (λ ns. scope_view version t ns xs) last ∙ ap (λ ns. record {
       table = t;
       names = record { version = version; known = ns; announced = map announced_view xs };
@@ -282,14 +285,14 @@ scope_announced s w word i is at = record {
 pub put_announced : (s : Scope) (version : ℕ) (t : Table) (es : List (ArrayVec ℕ × Option TypeId))
     (xs new : List (ArrayVec ℕ × Announcement)) (key : ArrayVec ℕ) (a : Announcement) (w : List ℕ)
     → scope_view version t es xs ≡ s → key.items ≡ w → announced_as s.names w ≡ None
-    → new ≡ insert_entry key_is xs key a
+    → new ≡ insert_entry same_key_octets xs key a
     → scope_view version t es new ≡ with_announced a.word w (s, a.type_id.0)
 put_announced s version t es xs new key a w view same none is =
-    let unseen : lookup (key_is key) xs ≡ None =
-    none_before announcement_view (lookup (key_is key) xs)
+    let unseen : lookup (same_key_octets key) xs ≡ None =
+    none_before announcement_view (lookup (same_key_octets key) xs)
     (name_announced s version t es xs key w view same ∙ none) in
     let last : new ≡ xs ++ (key, a) ∷ [] =
-    is ∙ entry_last key_is xs key a (none_found key xs unseen) in
+    is ∙ entry_last same_key_octets xs key a (none_found key xs unseen) in
     ap (scope_view version t es) last ∙ ap (λ ns. record {
       table = t;
       names = record { version = version; known = map name_view es; announced = ns };

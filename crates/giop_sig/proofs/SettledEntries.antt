@@ -14,60 +14,60 @@ use Rattle.giop_sig.specs.declared.entries.EntryWithDepth.{EntryWithDepth}
 use Rattle.giop_sig.specs.declared.types.TypeId.{TypeId}
 use Rattle.giop_sig.specs.Table.{Node, Table}
 use Rattle.giop_sig.specs.Table as nodes
-use Rattle.giop_sig.specs.Trees.{depth_in, depth_of, wide_in, AreFormed}
-use Rattle.giop_sig.specs.RequestList.{flat}
-use Rattle.giop_sig.specs.Scopes.{Scope, named, number_or, settled, settled_node, target, targets, with_settled}
-use Rattle.giop_sig.specs.ScopeViews.{announced_view, key_is, number_of_id, scope_view}
-use Rattle.giop_sig.specs.Settling.{settled_entry, settled_kind, type_or}
-use Rattle.giop_sig.specs.Views.{node_view, nodes_view, IsKept}
-use Rattle.giop_sig.specs.FileReading.{settled_at, settled_unless}
+use Rattle.giop_sig.specs.Trees.{depth_in, depth_of, has_wide_text, AreFormed}
+use Rattle.giop_sig.specs.RequestList.{option_flatten}
+use Rattle.giop_sig.specs.Scopes.{Scope, named, number_or_0, settled, resolved_node, declared_type_at, types_of_announced, with_resolved_types}
+use Rattle.giop_sig.specs.ScopeViews.{announced_view, same_key_octets, number_of_id, scope_view}
+use Rattle.giop_sig.specs.Settling.{resolved_entry, resolved_entry_kind, type_or_0}
+use Rattle.giop_sig.specs.Views.{node_view, nodes_view, AreDepthsKept}
+use Rattle.giop_sig.specs.FileReading.{resolved_if_declared, resolved_unless_undeclared}
 use Rattle.giop_sig.proofs.Finds.{position-map}
 use Rattle.giop_sig.proofs.ScopeLaws.{name_typed, some_map}
 use Rattle.giop_sig.proofs.SettleLaws.{are_settled, deepest_settled, depth_in_settled, wide_in_settled}
 
 -- ---- entries
 
-type_is : (o : Option TypeId) → (type_or o).0 ≡ number_or (number_of_id o)
+type_is : (o : Option TypeId) → (type_or_0 o).0 ≡ number_or_0 (number_of_id o)
 type_is None = refl
 type_is (Some t) = refl
 
 target_is : (ts : List (Option TypeId)) (n : ℕ)
-    → (type_or (flat (slice_get ts n))).0 ≡ target (map number_of_id ts) n
+    → (type_or_0 (option_flatten (slice_get ts n))).0 ≡ declared_type_at (map number_of_id ts) n
 target_is [] n = refl
 target_is (o ∷ os) zero = type_is o
 target_is (o ∷ os) (suc n) = target_is os n
 
 kind_settled : (ts : List (Option TypeId)) (e : Entry)
-    → node_view (settled_kind ts e) ≡ settled_node (map number_of_id ts) (node_view e)
+    → node_view (resolved_entry_kind ts e) ≡ resolved_node (map number_of_id ts) (node_view e)
 kind_settled ts (entries.Recursive bound index) =
     ap (nodes.recursive bound) (target_is ts index.0)
 kind_settled ts (entries.Prim p) = refl
 kind_settled ts _ = refl
 
 pub view_settled : (ts : List (Option TypeId)) (ps : List EntryWithDepth)
-    → nodes_view (map (settled_entry ts) ps)
-    ≡ map (settled_node (map number_of_id ts)) (nodes_view ps)
+    → nodes_view (map (resolved_entry ts) ps)
+    ≡ map (resolved_node (map number_of_id ts)) (nodes_view ps)
 view_settled ts [] = refl
 view_settled ts (p ∷ ps) =
-    ap (λ n. n ∷ nodes_view (map (settled_entry ts) ps)) (kind_settled ts p.entry)
-    ∙ ap (λ ns. settled_node (map number_of_id ts) (node_view p.entry) ∷ ns) (view_settled ts ps)
+    ap (λ n. n ∷ nodes_view (map (resolved_entry ts) ps)) (kind_settled ts p.entry)
+    ∙ ap (λ ns. resolved_node (map number_of_id ts) (node_view p.entry) ∷ ns) (view_settled ts ps)
 
 -- what is kept with an entry stays
 kept_same : {X : Type 0} (f : EntryWithDepth → X) (ts : List (Option TypeId))
-    (ps : List EntryWithDepth) → ((p : EntryWithDepth) → f (settled_entry ts p) ≡ f p)
-    → map f (map (settled_entry ts) ps) ≡ map f ps
+    (ps : List EntryWithDepth) → ((p : EntryWithDepth) → f (resolved_entry ts p) ≡ f p)
+    → map f (map (resolved_entry ts) ps) ≡ map f ps
 kept_same f ts [] same = refl
 kept_same f ts (p ∷ ps) same =
-    ap (λ x. x ∷ map f (map (settled_entry ts) ps)) (same p)
+    ap (λ x. x ∷ map f (map (resolved_entry ts) ps)) (same p)
     ∙ ap (λ xs. f p ∷ xs) (kept_same f ts ps same)
 
 pub kept_settled : (ts : List (Option TypeId)) (ps : List EntryWithDepth) (deepest : ℕ)
-    → IsKept ps deepest → IsKept (map (settled_entry ts) ps) deepest
+    → AreDepthsKept ps deepest → AreDepthsKept (map (resolved_entry ts) ps) deepest
 kept_settled ts ps deepest is =
     let us = map number_of_id ts in
     let types = nodes_view ps in
     let view = view_settled ts ps in
-    let size = length-map ps (settled_entry ts) in
+    let size = length-map ps (resolved_entry ts) in
     record {
       types = subst AreFormed (sym view) (are_settled us types is.types);
       each = λ i lt.
@@ -77,7 +77,7 @@ kept_settled ts ps deepest is =
       wide = λ i lt.
           ap (λ ws. get_or ws i false) (kept_same (λ p. p.wide) ts ps (λ p. refl))
           ∙ is.wide i (omega (arith, size)) ∙ sym (wide_in_settled us types i)
-          ∙ ap (λ ns. wide_in ns i) (sym view);
+          ∙ ap (λ ns. has_wide_text ns i) (sym view);
       greatest = is.greatest ∙ sym (deepest_settled us types) ∙ ap depth_of (sym view);
     }
 
@@ -90,12 +90,13 @@ if_ok P Q (Err e) on h = tt
 
 each_found : (s : Scope) (version : ℕ) (t : Table) (es : List (ArrayVec ℕ × Option TypeId))
     (xs ys : List (ArrayVec ℕ × Announcement)) → scope_view version t es xs ≡ s
-    → map number_of_id (map (λ (e : ArrayVec ℕ × Announcement). flat (lookup (key_is e.0) es)) ys)
+    → map number_of_id (map (λ (e : ArrayVec ℕ × Announcement). option_flatten
+    (lookup (same_key_octets e.0) es)) ys)
     ≡ map (λ e. named s.names e.0) (map announced_view ys)
 each_found s version t es xs [] view = refl
 each_found s version t es xs (y ∷ ys) view =
     ap (λ o. o ∷ map number_of_id
-    (map (λ (e : ArrayVec ℕ × Announcement). flat (lookup (key_is e.0) es)) ys))
+    (map (λ (e : ArrayVec ℕ × Announcement). option_flatten (lookup (same_key_octets e.0) es)) ys))
     (name_typed s version t es xs y.0 (y.0).items view refl)
     ∙ ap (λ os. named s.names (y.0).items ∷ os) (each_found s version t es xs ys view)
 
@@ -103,8 +104,9 @@ each_found s version t es xs (y ∷ ys) view =
 pub targets_found : (s : Scope) (version : ℕ) (t : Table)
     (es : List (ArrayVec ℕ × Option TypeId)) (xs : List (ArrayVec ℕ × Announcement))
     → scope_view version t es xs ≡ s
-    → map number_of_id (map (λ (e : ArrayVec ℕ × Announcement). flat (lookup (key_is e.0) es)) xs)
-    ≡ targets s.names
+    → map number_of_id (map (λ (e : ArrayVec ℕ × Announcement). option_flatten
+    (lookup (same_key_octets e.0) es)) xs)
+    ≡ types_of_announced s.names
 targets_found s version t es xs view =
     each_found s version t es xs xs view
     ∙ ap (λ (x : Scope). map (λ e. named s.names e.0) x.names.announced) view
@@ -112,13 +114,16 @@ targets_found s version t es xs view =
 -- the scope of a draft whose types are settled
 pub settled_is : (s : Scope) (version : ℕ) (t : Table) (new : List Node)
     (es : List (ArrayVec ℕ × Option TypeId)) (xs : List (ArrayVec ℕ × Announcement))
-    (ts : List (Option ℕ)) → scope_view version t es xs ≡ s → ts ≡ targets s.names
-    → new ≡ map (settled_node ts) t.types
+    (ts : List (Option ℕ)) → scope_view version t es xs ≡ s → ts ≡ types_of_announced s.names
+    → new ≡ map (resolved_node ts) t.types
     → scope_view version (record t { types = new }) es xs ≡ settled s
 settled_is s version t new es xs ts view same is =
     ap (λ ns. scope_view version (record t { types = ns }) es xs) is
-    ∙ ap (λ us. scope_view version (with_settled us t) es xs) same
-    ∙ ap (λ (x : Scope). record x { table = with_settled (targets s.names) x.table }) view
+    ∙ ap (λ us. scope_view version (with_resolved_types us t) es xs) same
+    ∙ ap (λ (x : Scope). record x {
+      table = with_resolved_types
+          (types_of_announced s.names) x.table;
+    }) view
 
 -- ---- a list whose elements are replaced one by one
 
@@ -193,9 +198,9 @@ put_next f ys more left rest x y next so_far is pushed =
 
 -- the end of a text, from the first type that isn't there
 pub settled_reads : (s : Scope) (lefts : List ℕ) (ts : List (Option TypeId)) (o : Option ℕ)
-    → map number_of_id ts ≡ targets s.names → o ≡ position (λ t. not (is_some t)) ts
-    → settled_at s lefts ≡ settled_unless s lefts o
-unfolding settled_at
+    → map number_of_id ts ≡ types_of_announced s.names → o ≡ position (λ t. not (is_some t)) ts
+    → resolved_if_declared s lefts ≡ resolved_unless_undeclared s lefts o
+unfolding resolved_if_declared
 settled_reads s lefts ts o same is =
-    ap (settled_unless s lefts)
+    ap (resolved_unless_undeclared s lefts)
     (sym (is ∙ none_found ts ∙ ap (position (λ t. not (is_some t))) same))

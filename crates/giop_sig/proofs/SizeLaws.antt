@@ -9,10 +9,10 @@ use Rattle.giop_sig.specs.Table as nodes
 use Rattle.giop_sig.specs.Trees.{depth_in}
 use Rattle.giop_sig.specs.Grammar.{TypeExpr, Text, WideText, SequenceOf, EncapsulationOf, spell_most, spell_type, Item, spell_lengths, spell_item, spell_items, spell_names, spell_labels, UnionCase, spell_cases, Param, spell_more_params, spell_params, spell_return, spell_interfaces, Declaration, Enumeration, Structure, DeclaredUnion, Announcement, DeclaredException, Call, KeyOf, spell, spell_all}
 use Rattle.giop_sig.specs.Scopes.{Scope, AddedType, with_node, with_identified, with_id_fronts, add_struct_type, sequence_node, add_type, add_arrays, add_item, add_items, add_cases, default_from, add_params, add_return, declare, scope_after}
-use Rattle.giop_sig.proofs.AddTypeLaws.{size, listed_types}
+use Rattle.giop_sig.proofs.AddTypeLaws.{type_count, listed_types}
 use Rattle.giop_sig.proofs.SpellLaws.{most, names, label, labels, interfaces, identity}
 
-one_more : (s : Scope) (n : Node) → size (with_node s n).0 ≤ suc (size s)
+one_more : (s : Scope) (n : Node) → type_count (with_node s n).0 ≤ suc (type_count s)
 one_more s n = search (arith, length-append)
 
 sequence_by : (t : Table) (number : ℕ) (v : Bool)
@@ -30,7 +30,7 @@ identified t (Some id) number =
 
 -- a type has at least one token more than it adds types
 typed : (s : Scope) (e : TypeExpr) (more : List Token)
-    → size (add_type s e).0 + length more < size s + length (spell_type e more)
+    → type_count (add_type s e).0 + length more < type_count s + length (spell_type e more)
 unfolding add_type
 typed s (Text (Some n)) more = search (arith, one_more)
 typed s (WideText (Some n)) more = omega arith
@@ -47,14 +47,14 @@ typed s (EncapsulationOf e) more = let p = add_type s e in
 typed s _ more = omega arith
 
 arrays : (p : AddedType) (ns : List ℕ) (more : List Token)
-    → size (add_arrays ns p).0 + length more ≤ size p.0 + length (spell_lengths ns more)
+    → type_count (add_arrays ns p).0 + length more ≤ type_count p.0 + length (spell_lengths ns more)
 arrays p [] more = omega arith
 arrays p (n ∷ ns) more =
     let q = add_arrays ns p in
     omega (arith, arrays p ns more, one_more q.0 (nodes.array n q.1))
 
 item : (s : Scope) (i : Item) (more : List Token)
-    → size (add_item s i).0 + length more ≤ size s + length (spell_item i more)
+    → type_count (add_item s i).0 + length more ≤ type_count s + length (spell_item i more)
 item s i more = omega (
   arith,
   typed s i.type (word i.name ∷ spell_lengths i.lengths more),
@@ -62,7 +62,7 @@ item s i more = omega (
 )
 
 items : (s : Scope) (is : List Item) (more : List Token)
-    → size (add_items s is).0 + length more ≤ size s + length (spell_items is more)
+    → type_count (add_items s is).0 + length more ≤ type_count s + length (spell_items is more)
 unfolding add_items
 items s [] more = omega arith
 items s (i ∷ is) more = omega (
@@ -72,7 +72,7 @@ items s (i ∷ is) more = omega (
 )
 
 cases : (s : Scope) (node : Node) (cs : List UnionCase) (more : List Token)
-    → size (add_cases s node cs).0 + length more ≤ size s + length (spell_cases cs more)
+    → type_count (add_cases s node cs).0 + length more ≤ type_count s + length (spell_cases cs more)
 unfolding add_cases
 cases s node [] more = omega arith
 cases s node (c ∷ cs) more =
@@ -86,7 +86,8 @@ cases s node (c ∷ cs) more =
     )
 
 more_params : (s : Scope) (ps : List Param) (more : List Token)
-    → size (add_params s ps).0 + length more ≤ size s + length (spell_more_params ps more)
+    → type_count (add_params s ps).0 + length more ≤ type_count s + length
+    (spell_more_params ps more)
 unfolding add_params
 more_params s [] more = omega arith
 more_params s (p ∷ ps) more = omega (
@@ -96,23 +97,23 @@ more_params s (p ∷ ps) more = omega (
 )
 
 params : (s : Scope) (ps : List Param) (more : List Token)
-    → size (add_params s ps).0 + length more ≤ size s + length (spell_params ps more)
+    → type_count (add_params s ps).0 + length more ≤ type_count s + length (spell_params ps more)
 unfolding add_params
 params s [] more = omega arith
 params s (p ∷ ps) more = search (arith, item, more_params)
 
 returned : (s : Scope) (o : Option TypeExpr) (more : List Token)
-    → size (add_return s o).0 + length more ≤ size s + length (spell_return o more)
+    → type_count (add_return s o).0 + length more ≤ type_count s + length (spell_return o more)
 returned s None more = omega arith
 returned s (Some e) more = omega (arith, typed s e more)
 
 declared : (s : Scope) (d : Declaration) (more : List Token)
-    → size (declare s d) + length more ≤ size s + length (spell d more)
+    → type_count (declare s d) + length more ≤ type_count s + length (spell d more)
 unfolding declare
 declared s (Enumeration n id ns) more = omega (
   arith,
   one_more s (nodes.enumeration ns),
-  identified (with_node s (nodes.enumeration ns)).0.table id (size s),
+  identified (with_node s (nodes.enumeration ns)).0.table id (type_count s),
   names ns (mark marks.Semicolon ∷ more),
   identity id (mark marks.OpenBrace ∷ spell_names ns (mark marks.Semicolon ∷ more)),
 )
@@ -165,13 +166,14 @@ declared s (KeyOf text id) more = omega arith
 -- up to each declaration there are at most as many new types as tokens
 pub types_fewer : (s : Scope) (before : List Declaration) (d : Declaration)
     (after : List Declaration)
-    → size (declare (scope_after s before) d) ≤ size s + length (spell_all (before ++ d ∷ after))
+    → type_count (declare (scope_after s before) d) ≤ type_count s + length
+    (spell_all (before ++ d ∷ after))
 types_fewer s [] d after = omega (arith, declared s d (spell_all after))
 types_fewer s (b ∷ bs) d after =
     omega (arith, declared s b (spell_all (bs ++ d ∷ after)), types_fewer (declare s b) bs d after)
 
 -- there are at most as many new types as tokens
 pub types_few : (s : Scope) (ds : List Declaration)
-    → size (scope_after s ds) ≤ size s + length (spell_all ds)
+    → type_count (scope_after s ds) ≤ type_count s + length (spell_all ds)
 types_few s [] = omega arith
 types_few s (d ∷ ds) = omega (arith, declared s d (spell_all ds), types_few (declare s d) ds)

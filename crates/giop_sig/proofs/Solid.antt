@@ -11,11 +11,11 @@ use Rattle.giop_cdr.specs.declared.number.Number.{Number}
 use Rattle.giop_cdr.specs.declared.prim.Primitive.TheVariants.{Octet}
 use Rattle.giop_sig.specs.declared.types.Selected.{Selected}
 use Rattle.giop_sig.specs.declared.types.Selected.TheVariants as selecteds
-use Rattle.giop_sig.specs.Types.{interpreted_by, Ty, HasMember, HasInner, Told, Untold, Awaits, Offers, Is, Empty, Unknown, Then, Stops, sequel, part_of}
+use Rattle.giop_sig.specs.Types.{interpreted_by, Ty, HasMember, HasSmallerPart, InferredType, Untold, Awaits, Offers, Is, Empty, Unknown, Then, Stops, sequel, part_of}
 use Rattle.giop_sig.specs.Fits.{IsFit, IsRoot, IsEmptyStruct}
 use Rattle.giop_sig.specs.Table.{Node, Part, Case, Table, case_part, node_at, node_in, takes_octet, shape_of, part_at, type_of, switch_at, selected, case_or, IsFormed, IsCaseBelow, TakesOctet}
 use Rattle.giop_sig.specs.Table as nodes
-use Rattle.giop_sig.specs.Trees.{Room, any_hearing, room_of, has_room, follows, in_room, wide_room, AreWide, IsWide, IsWidePart, grow, octet_type, scalar_of, selected_by, tree_at, tree, depth_in, wide_in, AreFormed, AreTypes}
+use Rattle.giop_sig.specs.Trees.{PartLimits, any_inference, limits_in_room, has_room, can_be_value, node_in_room, parameters_room, AllHaveParameterTypes, HasParameterTypes, IsParameterType, tree_of_node, octet_type, scalar_or_octet, selected_by, tree_at, tree, depth_in, has_wide_text, AreFormed, AreTypes}
 use Rattle.giop_sig.proofs.Nodes.{case_below, inner_index, part_grown}
 use Rattle.giop_sig.proofs.Formed.{part_formed}
 use Rattle.giop_sig.proofs.Depths.{depth_within, part_shallower, some_depth}
@@ -63,26 +63,26 @@ taken_below types n node (Some number) i formed e = search (arith, selected_belo
 some_part : (p : Part) (ps : List Part) → 0 < length (p ∷ ps)
 some_part p ps = omega arith
 
-abbrev PartsFit : Room → (ℕ → Ty) → Node → ℕ → Type 0
+abbrev PartsFit : (limits : PartLimits) (f : ℕ → Ty) (node : Node) (d : ℕ) → Type 0
 PartsFit h f node d =
-    (k : ℕ) → HasInner (shape_of node) k → IsFit d (part_of (grow h f node) k)
+    (k : ℕ) → HasSmallerPart (shape_of node) k → IsFit d (part_of (tree_of_node h f node) k)
 
 -- what an any selects fits, and so do the elements of a recursive sequence
-record FollowersFit (h : Room) (f : ℕ → Ty) (d : ℕ) : Type 0 where
-  sequels : (told : Told) (i : ℕ) → sequel h.hearing told ≡ Then i → IsFit d (f i)
+record FollowersFit (h : PartLimits) (f : ℕ → Ty) (d : ℕ) : Type 0 where
+  sequels : (told : InferredType) (i : ℕ) → sequel h.hearing told ≡ Then i → IsFit d (f i)
   elements : (i : ℕ) → h.fits i ≡ true → IsFit d (f i)
 
-grown_fit : (types : List Node) (n : ℕ) (node : Node) (h : Room) (f : ℕ → Ty) (d room : ℕ)
-    → IsFormed types n node → TakesOctet node → PartsFit h f (in_room room node) d
+grown_fit : (types : List Node) (n : ℕ) (node : Node) (h : PartLimits) (f : ℕ → Ty) (d room : ℕ)
+    → IsFormed types n node → TakesOctet node → PartsFit h f (node_in_room room node) d
     → FollowersFit h f d
-    → IsFit (suc d) (grow h f (in_room room node))
+    → IsFit (suc d) (tree_of_node h f (node_in_room room node))
 unfolding IsFit
 grown_fit types n (nodes.members []) h f d room formed takes parts others = absurd takes
 grown_fit types n (nodes.members (p ∷ ps)) h f d room formed takes parts others =
     (some_part p ps, parts)
 grown_fit types n (nodes.union switch cases otherwise) h f d room formed takes parts others = (
   λ k i e. taken_below types n (nodes.union switch cases otherwise)
-      (interpreted_by (scalar_of (f switch)) k) i formed e,
+      (interpreted_by (scalar_or_octet (f switch)) k) i formed e,
   parts,
 )
 grown_fit types n (nodes.sequence bound element) h f d room formed takes parts others = parts 0 tt
@@ -91,7 +91,7 @@ grown_fit types n (nodes.array count element) h f d room formed takes parts othe
 grown_fit types n (nodes.encapsulation held) h f d room formed takes parts others = parts 0 tt
 grown_fit types n (nodes.tagged special tag one other) h f d room formed takes parts others = (
   λ k i e. taken_below types n (nodes.tagged special tag one other)
-      (interpreted_by (scalar_of (f tag.type)) k) i formed e,
+      (interpreted_by (scalar_or_octet (f tag.type)) k) i formed e,
   parts,
 )
 grown_fit types n (nodes.any code) h f d room formed takes parts others =
@@ -101,7 +101,7 @@ grown_fit types n (nodes.recursive bound element) h f d room formed takes parts 
     others.elements element
 grown_fit types n (nodes.typecode wide kind cases) h f d room formed takes parts others = (
   λ k i e. taken_below types n (nodes.typecode wide kind cases)
-      (interpreted_by (scalar_of (f kind)) k) i formed e,
+      (interpreted_by (scalar_or_octet (f kind)) k) i formed e,
   parts,
 )
 grown_fit types n _ h f d room formed takes parts others = tt
@@ -123,11 +123,11 @@ takes_by (nodes.members []) e = absurd cc
 takes_by (nodes.announced index) e = absurd cc
 takes_by _ e = tt
 
-pub can_follow : (t : Table) (room i : ℕ) → follows t room i ≡ true → CanFollow t room i
+pub can_follow : (t : Table) (room i : ℕ) → can_be_value t room i ≡ true → CanFollow t room i
 can_follow t room i e =
     let a = both (nat_lt i (length t.types) && takes_octet (node_at t i))
     (nat_le (depth_in t.types i) room)
-    (both (has_room t room i) (not (t.narrow && wide_in t.types i)) e).0 in
+    (both (has_room t room i) (not (t.forbids_wide && has_wide_text t.types i)) e).0 in
     let b = both (nat_lt i (length t.types)) (takes_octet (node_at t i)) a.0 in
     record {
       known = ltb-true i (length t.types) b.0;
@@ -139,12 +139,12 @@ then_by : (v : Bool) (i k : ℕ) → cond v (Then i) Stops ≡ Then k → (v ≡
 then_by true i k e = (refl, cc)
 then_by false i k e = absurd cc
 
-pub selected_follows : (t : Table) (room : ℕ) (told : Told) (k : ℕ)
-    → sequel (any_hearing t room) told ≡ Then k → CanFollow t room k
+pub selected_follows : (t : Table) (room : ℕ) (told : InferredType) (k : ℕ)
+    → sequel (any_inference t room) told ≡ Then k → CanFollow t room k
 selected_follows t room Untold k e = absurd cc
 selected_follows t room (Awaits octets) k e = absurd cc
 selected_follows t room (Offers i) k e = absurd cc
-selected_follows t room (Is i) k e = let is = then_by (follows t room i) i k e in
+selected_follows t room (Is i) k e = let is = then_by (can_be_value t room i) i k e in
     subst (CanFollow t room) is.1 (can_follow t room i is.0)
 selected_follows t room Empty k e = absurd cc
 selected_follows t room Unknown k e = absurd cc
@@ -152,16 +152,16 @@ selected_follows t room Unknown k e = absurd cc
 -- ---- what comes after the kind of a TypeCode, if there is room
 
 wide_read : (types : List Node) (cs : List Case) (i : ℕ) (p : Part)
-    → AllByRecursion (λ c. IsWidePart types c.part.type) cs
-    → case_part (slice_get cs i) ≡ Some p → IsWidePart types p.type
+    → AllByRecursion (λ c. IsParameterType types c.part.type) cs
+    → case_part (slice_get cs i) ≡ Some p → IsParameterType types p.type
 wide_read types [] i p all e = absurd cc
 wide_read types (c ∷ cs) zero p all e = let same : c.part ≡ p = cc in
-    subst (λ (q : Part). IsWidePart types q.type) same all.0
+    subst (λ (q : Part). IsParameterType types q.type) same all.0
 wide_read types (c ∷ cs) (suc i) p all e = wide_read types cs i p all.1 e
 
 -- a part with a smaller number
 inner_room : (t : Table) (i room k : ℕ) → AreFormed t.types → i < length t.types
-    → depth_in t.types i ≤ suc room → HasInner (shape_of (node_at t i)) k
+    → depth_in t.types i ≤ suc room → HasSmallerPart (shape_of (node_at t i)) k
     → CanFollow t room (type_of (part_at (node_at t i) k))
 inner_room t i room k are lt le has =
     let is = part_formed t.types i (node_at t i) k (are.formed i lt) has in
@@ -173,48 +173,53 @@ inner_room t i room k are lt le has =
     }
 
 code_room : (t : Table) (i room k : ℕ) (wide : Option ℕ) (kind : ℕ) (cases : List Case)
-    → AreFormed t.types → AreWide t.types → i < length t.types → depth_in t.types i ≤ suc room
+    → AreFormed t.types → AllHaveParameterTypes t.types → i < length t.types
+    → depth_in t.types i ≤ suc room
     → nodes.typecode wide kind cases ≡ node_at t i → k < length cases
-    → (v : Bool) → nat_lt room wide_room ≡ v
+    → (v : Bool) → nat_lt room parameters_room ≡ v
     → CanFollow t room (type_of (part_at (nodes.typecode (cond v wide None) kind cases) k))
 code_room t i room k wide kind cases are w lt le e has true little =
-    let there = subst (λ n. HasInner (shape_of n) k) e has in
+    let there = subst (λ n. HasSmallerPart (shape_of n) k) e has in
     subst (λ n. CanFollow t room (type_of (part_at n k))) (sym e)
     (inner_room t i room k are lt le there)
 code_room t i room k wide kind cases are w lt le e has false much =
     let p = case_below cases k has in
-    let all = subst (IsWide t.types) (sym e) (w i lt) in
+    let all = subst (HasParameterTypes t.types) (sym e) (w i lt) in
     let is = wide_read t.types cases k p.0
-    (recursion_from_All (λ (c : Case). IsWidePart t.types c.part.type) cases all) p.1 in
-    let room_is = ltb-false room wide_room much in
+    (recursion_from_All (λ (c : Case). IsParameterType t.types c.part.type) cases all) p.1 in
+    let room_is = ltb-false room parameters_room much in
     rw (p.1) (record {
       known = is.known;
       takes = is.takes;
       shallow = omega (arith, is.shallow, room_is);
     })
 
-part_room : (t : Table) (i room k : ℕ) (node : Node) → AreFormed t.types → AreWide t.types
+part_room : (t : Table) (i room k : ℕ) (node : Node) → AreFormed t.types
+    → AllHaveParameterTypes t.types
     → i < length t.types → depth_in t.types i ≤ suc room → node ≡ node_at t i
-    → HasInner (shape_of (in_room room node)) k
-    → CanFollow t room (type_of (part_at (in_room room node) k))
+    → HasSmallerPart (shape_of (node_in_room room node)) k
+    → CanFollow t room (type_of (part_at (node_in_room room node) k))
 part_room t i room k (nodes.typecode wide kind cases) are w lt le e has =
-    code_room t i room k wide kind cases are w lt le e has (nat_lt room wide_room) refl
+    code_room t i room k wide kind cases are w lt le e has (nat_lt room parameters_room) refl
 part_room t i room k node are w lt le e has =
     subst (λ n. CanFollow t room (type_of (part_at n k))) (sym e)
-    (inner_room t i room k are lt le (subst (λ n. HasInner (shape_of n) k) e has))
+    (inner_room t i room k are lt le (subst (λ n. HasSmallerPart (shape_of n) k) e has))
 
 -- a type fits if the room is at least its depth
-pub fits : (t : Table) (room i : ℕ) → AreFormed t.types → AreWide t.types → i < length t.types
+pub fits : (t : Table) (room i : ℕ) → AreFormed t.types → AllHaveParameterTypes t.types
+    → i < length t.types
     → TakesOctet (node_at t i) → depth_in t.types i ≤ room → IsFit room (tree_at t room i)
 unfolding tree_at
 fits t zero i are w lt takes le = absurd (omega (arith, some_depth t.types i))
 fits t (suc room) i are w lt takes le =
     let node = node_at t i in
-    grown_fit t.types i node (room_of t room) (tree_at t room) room room (are.formed i lt) takes
+    grown_fit t.types i node (limits_in_room t room) (tree_at t room) room room
+    (are.formed i lt) takes
     (λ k has. let is = part_room t i room k node are w lt le refl has in
-    subst (IsFit room) (part_grown (room_of t room) (tree_at t room) (in_room room node) k
-    (inner_index (in_room room node) k has))
-    (fits t room (type_of (part_at (in_room room node) k)) are w is.known is.takes is.shallow))
+    subst (IsFit room) (part_grown (limits_in_room t room) (tree_at t room)
+    (node_in_room room node) k
+    (inner_index (node_in_room room node) k has))
+    (fits t room (type_of (part_at (node_in_room room node) k)) are w is.known is.takes is.shallow))
     (record {
       sequels = λ told k e. let is = selected_follows t room told k e in
           fits t room k are w is.known is.takes is.shallow;
@@ -227,15 +232,16 @@ unfolding IsFit
 octet_fits = tt
 
 -- a part of a type is a type of the table, in any room
-pub any_room : (t : Table) (i room k : ℕ) (node : Node) → AreFormed t.types → AreWide t.types
-    → i < length t.types → node ≡ node_at t i → HasInner (shape_of (in_room room node)) k
-    → (type_of (part_at (in_room room node) k) < length t.types)
-    × TakesOctet (node_at t (type_of (part_at (in_room room node) k)))
+pub any_room : (t : Table) (i room k : ℕ) (node : Node) → AreFormed t.types
+    → AllHaveParameterTypes t.types
+    → i < length t.types → node ≡ node_at t i → HasSmallerPart (shape_of (node_in_room room node)) k
+    → (type_of (part_at (node_in_room room node) k) < length t.types)
+    × TakesOctet (node_at t (type_of (part_at (node_in_room room node) k)))
 any_room t i room k (nodes.typecode wide kind cases) are w lt e has =
-    code_known t i k wide kind cases are w lt e has (nat_lt room wide_room)
+    code_known t i k wide kind cases are w lt e has (nat_lt room parameters_room)
   where
     code_known : (t : Table) (i k : ℕ) (wide : Option ℕ) (kind : ℕ) (cases : List Case)
-        → AreFormed t.types → AreWide t.types → i < length t.types
+        → AreFormed t.types → AllHaveParameterTypes t.types → i < length t.types
         → nodes.typecode wide kind cases ≡ node_at t i → k < length cases → (v : Bool)
         → (type_of (part_at (nodes.typecode (cond v wide None) kind cases) k) < length t.types)
         × TakesOctet (node_at t
@@ -247,9 +253,9 @@ any_room t i room k (nodes.typecode wide kind cases) are w lt e has =
         (omega arith, is.takes)
     code_known t i k wide kind cases are w lt e has false =
         let p = case_below cases k has in
-        let all = subst (IsWide t.types) (sym e) (w i lt) in
+        let all = subst (HasParameterTypes t.types) (sym e) (w i lt) in
         let is = wide_read t.types cases k p.0
-        (recursion_from_All (λ (c : Case). IsWidePart t.types c.part.type) cases all) p.1 in
+        (recursion_from_All (λ (c : Case). IsParameterType t.types c.part.type) cases all) p.1 in
         rw (p.1) (is.known, is.takes)
 any_room t i room k node are w lt e has =
     let is = part_formed t.types i node k (subst (IsFormed t.types i) (sym e) (are.formed i lt)) has
@@ -258,23 +264,24 @@ any_room t i room k node are w lt e has =
     (omega arith, is.takes)
 
 -- a tree that is cut off at its room fits too
-pub fit_each : (t : Table) (room i : ℕ) → AreFormed t.types → AreWide t.types → i < length t.types
+pub fit_each : (t : Table) (room i : ℕ) → AreFormed t.types → AllHaveParameterTypes t.types
+    → i < length t.types
     → TakesOctet (node_at t i) → IsFit (suc (suc room)) (tree_at t room i)
 unfolding tree_at
 fit_each t zero i are w lt takes =
-    grown_fit t.types i (node_at t i) (room_of t 0) (λ k. octet_type) 1 0 (are.formed i lt)
+    grown_fit t.types i (node_at t i) (limits_in_room t 0) (λ k. octet_type) 1 0 (are.formed i lt)
     takes
-    (λ k has. subst (IsFit 1) (part_grown (room_of t 0) (λ k. octet_type)
-    (in_room 0 (node_at t i)) k (inner_index (in_room 0 (node_at t i)) k has)) octet_fits)
+    (λ k has. subst (IsFit 1) (part_grown (limits_in_room t 0) (λ k. octet_type)
+    (node_in_room 0 (node_at t i)) k (inner_index (node_in_room 0 (node_at t i)) k has)) octet_fits)
     (record { sequels = λ told k e. octet_fits; elements = λ k e. octet_fits })
 fit_each t (suc room) i are w lt takes =
     let node = node_at t i in
-    grown_fit t.types i node (room_of t room) (tree_at t room) (suc (suc room)) room
+    grown_fit t.types i node (limits_in_room t room) (tree_at t room) (suc (suc room)) room
     (are.formed i lt) takes
     (λ k has. let is = any_room t i room k node are w lt refl has in
-    subst (IsFit (suc (suc room))) (part_grown (room_of t room) (tree_at t room)
-    (in_room room node) k (inner_index (in_room room node) k has))
-    (fit_each t room (type_of (part_at (in_room room node) k)) are w is.0 is.1))
+    subst (IsFit (suc (suc room))) (part_grown (limits_in_room t room) (tree_at t room)
+    (node_in_room room node) k (inner_index (node_in_room room node) k has))
+    (fit_each t room (type_of (part_at (node_in_room room node) k)) are w is.0 is.1))
     (record {
       sequels = λ told k e. let is = selected_follows t room told k e in
           fit_each t room k are w is.known is.takes;
@@ -283,8 +290,8 @@ fit_each t (suc room) i are w lt takes =
     })
 
 -- a type that fits takes an octet
-takes_fit : (h : Room) (f : ℕ → Ty) (room : ℕ) (node : Node) (d : ℕ)
-    → IsFit d (grow h f (in_room room node)) → TakesOctet node
+takes_fit : (h : PartLimits) (f : ℕ → Ty) (room : ℕ) (node : Node) (d : ℕ)
+    → IsFit d (tree_of_node h f (node_in_room room node)) → TakesOctet node
 unfolding IsFit
 takes_fit h f room (nodes.members []) zero fit = absurd fit
 takes_fit h f room (nodes.members []) (suc d) fit = absurd (omega (arith, fit.0))
@@ -297,46 +304,51 @@ past_fits : (t : Table) (room i : ℕ) → node_at t i ≡ nodes.prim Octet
     → IsFit (suc (suc room)) (tree_at t room i)
 unfolding tree_at IsFit
 past_fits t zero i e =
-    subst (λ node. IsFit 2 (grow (room_of t 0) (λ k. octet_type) (in_room 0 node))) (sym e) tt
+    subst (λ node. IsFit 2 (tree_of_node (limits_in_room t 0) (λ k. octet_type)
+    (node_in_room 0 node))) (sym e) tt
 past_fits t (suc room) i e =
     subst (λ node. IsFit (suc (suc (suc room)))
-    (grow (room_of t room) (tree_at t room) (in_room room node))) (sym e) tt
+    (tree_of_node (limits_in_room t room) (tree_at t room) (node_in_room room node))) (sym e) tt
 
-pub fit_in_room : (t : Table) (i d a room : ℕ) → AreFormed t.types → AreWide t.types
+pub fit_in_room : (t : Table) (i d a room : ℕ) → AreFormed t.types → AllHaveParameterTypes t.types
     → IsFit d (tree_at t a i)
     → (i < length t.types) ⊎ (length t.types ≤ i) → IsFit (suc (suc room)) (tree_at t room i)
 unfolding tree_at
 fit_in_room t i d zero room are w fit (inl lt) =
     fit_each t room i are w lt
-    (takes_fit (room_of t 0) (λ k. octet_type) 0 (node_at t i) d fit)
+    (takes_fit (limits_in_room t 0) (λ k. octet_type) 0 (node_at t i) d fit)
 fit_in_room t i d (suc a) room are w fit (inl lt) =
-    fit_each t room i are w lt (takes_fit (room_of t a) (tree_at t a) a (node_at t i) d fit)
+    fit_each t room i are w lt (takes_fit (limits_in_room t a) (tree_at t a) a (node_at t i) d fit)
 fit_in_room t i d a room are w fit (inr le) =
     past_fits t room i (get_or_past t.types i (nodes.prim Octet) le)
 
-pub fit_at : (t : Table) (i : ℕ) → AreTypes t.types → AreWide t.types → i < length t.types
+pub fit_at : (t : Table) (i : ℕ) → AreTypes t.types → AllHaveParameterTypes t.types
+    → i < length t.types
     → TakesOctet (node_at t i) → IsFit 24 (tree t i)
 fit_at t i are w known takes =
     fits t 24 i are.placed w known takes
     (omega (arith, depth_within t.types i known, are.shallow))
 
 -- a type that takes no octet is the empty struct
-takes_or_empty : (h : Room) (f : ℕ → Ty) (room : ℕ) (node : Node)
-    → TakesOctet node ⊎ IsEmptyStruct (grow h f (in_room room node))
+takes_or_empty : (h : PartLimits) (f : ℕ → Ty) (room : ℕ) (node : Node)
+    → TakesOctet node ⊎ IsEmptyStruct (tree_of_node h f (node_in_room room node))
 takes_or_empty h f room (nodes.members []) = inr tt
 takes_or_empty h f room (nodes.announced index) = inr tt
 takes_or_empty h f room _ = inl tt
 
-root_by : (t : Table) (i : ℕ) → AreTypes t.types → AreWide t.types → i < length t.types
+root_by : (t : Table) (i : ℕ) → AreTypes t.types → AllHaveParameterTypes t.types
+    → i < length t.types
     → TakesOctet (node_at t i)
-    ⊎ IsEmptyStruct (grow (room_of t 23) (tree_at t 23) (in_room 23 (node_at t i)))
+    ⊎ IsEmptyStruct (tree_of_node (limits_in_room t 23) (tree_at t 23)
+    (node_in_room 23 (node_at t i)))
     → IsRoot (tree t i)
 unfolding tree_at
 root_by t i are w known (inl takes) = inl (fit_at t i are w known takes)
 root_by t i are w known (inr empty) = inr empty
 
 -- each type of a table may be at the root of a message
-pub root_at : (t : Table) (i : ℕ) → AreTypes t.types → AreWide t.types → i < length t.types
+pub root_at : (t : Table) (i : ℕ) → AreTypes t.types → AllHaveParameterTypes t.types
+    → i < length t.types
     → IsRoot (tree t i)
 root_at t i are w known =
-    root_by t i are w known (takes_or_empty (room_of t 23) (tree_at t 23) 23 (node_at t i))
+    root_by t i are w known (takes_or_empty (limits_in_room t 23) (tree_at t 23) 23 (node_at t i))

@@ -7,13 +7,14 @@ use Rattle.giop_tokens.specs.declared.fault.SigFaultKind.TheVariants as kinds
 use Rattle.giop_tokens.specs.Lines.{fault_of}
 
 -- the line is 0 only if memory was refused
-abbrev pub HasLine : SigFault → Type 0
-HasLine f = (f.line ≡ 0) ↔ (f.kind ≡ kinds.OutOfMemory)
+abbrev pub HasLineUnlessMemory : (fault : SigFault) → Type 0
+HasLineUnlessMemory f = (f.line ≡ 0) ↔ (f.kind ≡ kinds.OutOfMemory)
 
 told : (text : List ℕ) (k : SigFaultKind) (left : ℕ)
-    → HasLine (fault_of text (record { kind = k; left = left }))
+    → HasLineUnlessMemory (fault_of text (record { kind = k; left = left }))
 told text kinds.OutOfMemory left = (λ e. refl, λ e. refl)
 told text _ left = search (arith)
 
-pub has_line : (text : List ℕ) (r : TokenError) (f : SigFault) → f ≡ fault_of text r → HasLine f
+pub has_line : (text : List ℕ) (r : TokenError) (f : SigFault) → f ≡ fault_of text r
+    → HasLineUnlessMemory f
 has_line text r f is = search (arith, told)

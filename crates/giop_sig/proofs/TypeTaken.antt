@@ -18,28 +18,28 @@ use Rattle.giop_tokens.specs.Tokens.{Token, word, mark, AreTokens}
 use Rattle.giop_tokens.specs.Readers.{misplaced, word_at, mark_at}
 use Rattle.giop_tokens.specs.Reading.{◌>>=◌}
 use Rattle.giop_tokens.specs.Names.{is_reserved}
-use Rattle.giop_tokens.proofs.ReaderLaws.{bind_ok, ok_is, Takes, word_takes, mark_takes}
+use Rattle.giop_tokens.proofs.ReaderLaws.{bind_ok, ok_is, TakesToken, word_takes, mark_takes}
 use Rattle.giop_sig.specs.Table.{Node, node_in, TakesOctet}
 use Rattle.giop_sig.specs.Table as nodes
 use Rattle.giop_sig.specs.AnyTypes.{first_types}
-use Rattle.giop_sig.specs.RequestList.{flat}
+use Rattle.giop_sig.specs.RequestList.{option_flatten}
 use Rattle.giop_sig.specs.Grammar.{TypeExpr, Base, Text, Reference, AnyType, CodeType, WideChar, WideText, Named, SequenceOf, EncapsulationOf, base_word, spell_most, spell_type}
 use Rattle.giop_sig.specs.declared.read_types.Opener.{Opener}
 use Rattle.giop_sig.specs.declared.read_types.Opener.TheVariants as openers
-use Rattle.giop_sig.specs.Scopes.{Names, Announced, announced_as, announced_index, or_announced, sequence_by, type_named, has_encapsulations, is_third, Scope, AddedType, named, base_number, with_node, sequence_node, add_text_type, add_sequence_type, add_encapsulation_type, reference_number}
+use Rattle.giop_sig.specs.Scopes.{Names, Announced, announced_as, announced_index, declared_or_announced, sequence_by, type_named, has_encapsulations, is_version_3, Scope, AddedType, named, base_number, with_node, sequence_node, add_text_type, add_sequence_type, add_encapsulation_type, reference_number}
 use Rattle.giop_sig.specs.Validity.{OfType}
-use Rattle.giop_sig.specs.ScopeViews.{CanStand, IsAnnounced, IsAnnouncedName, IsKnown, IsDeclaredName, IsScope}
+use Rattle.giop_sig.specs.ScopeViews.{CanBeInner, IsAnnounced, IsAnnouncedName, IsKnown, IsDeclaredName, IsScope}
 use Rattle.giop_sig.specs.Outcomes.{refused}
-use Rattle.giop_sig.specs.TypeReading.{TypeRead, most_at, base_of, read_as, text_at, wide_text_at, closed_by, opens_element, found_type, named_type, is_later, leaf_after, leaf_at, Opened, opened_by, opener_after, opener_at, type_after, nested_at, type_at}
+use Rattle.giop_sig.specs.TypeReading.{TypeRead, comma_size_at, primitive_of_word, read_as, text_at, wide_text_at, opener_closed, opens_element, type_if_found, named_type, is_version_3_word, leaf_after, leaf_at, Opened, opened_by, opener_after, opener_at, type_after, type_nested_at, type_at}
 use Rattle.giop_sig.proofs.Builtins.{first_known, first_leaf, first_takes, first_third}
 use Rattle.giop_sig.proofs.SizeTaken.{enclosed_takes, most_takes, bound_free}
 use Rattle.giop_sig.proofs.ScopeLaws.{known_stays, scope_grows}
-use Rattle.giop_sig.proofs.ReadingLaws.{Took}
+use Rattle.giop_sig.proofs.ReadingLaws.{SpellsUpTo}
 
 -- ---- what was added
 
 -- only types were added
-pub record Grows (s t : Scope) : Type 0 where
+pub record AddsOnlyTypes (s t : Scope) : Type 0 where
   pub types : (more : List Node) × (t.table.types ≡ s.table.types ++ more)
   pub names : t.names ≡ s.names
   pub operations : t.table.operations ≡ s.table.operations
@@ -49,18 +49,18 @@ pub record Grows (s t : Scope) : Type 0 where
   pub interfaces : t.table.interfaces ≡ s.table.interfaces
   pub identities : t.table.identities ≡ s.table.identities
 
-pub grows_none : (s : Scope) → Grows s s
+pub grows_none : (s : Scope) → AddsOnlyTypes s s
 grows_none s = search (arith, append-nil)
 
-pub grows_on : (r s t : Scope) → Grows r s → Grows s t → Grows r t
+pub grows_on : (r s t : Scope) → AddsOnlyTypes r s → AddsOnlyTypes s t → AddsOnlyTypes r t
 grows_on r s t a b = search (arith, append_assoc)
 
-pub grows_known : (s t : Scope) (i : ℕ) → Grows s t → IsKnown s.table.types i
+pub grows_known : (s t : Scope) (i : ℕ) → AddsOnlyTypes s t → IsKnown s.table.types i
     → IsKnown t.table.types i
 grows_known s t i g is = subst (λ ns. IsKnown ns i) (sym (g.types).1)
     (known_stays s.table.types (g.types).0 i is)
 
-pub node_grows : (s : Scope) (n : Node) → Grows s (with_node s n).0
+pub node_grows : (s : Scope) (n : Node) → AddsOnlyTypes s (with_node s n).0
 node_grows s n = search (arith)
 
 -- a node that was added may be a part
@@ -69,38 +69,38 @@ pub node_known : (s : Scope) (n : Node) → TakesOctet n
 node_known s n takes = search (arith, length-append, get_or-append_seam)
 
 -- the scope after a type, whose number may be that of a part
-pub record Sound (p : AddedType) : Type 0 where
+pub record IsKnownInScope (p : AddedType) : Type 0 where
   pub scope : IsScope p.0
   pub known : IsKnown (p.0).table.types p.1
 
 -- the same for a type that may be in another one, perhaps as that of a sequence's elements
-pub record SoundIn (element : Bool) (p : AddedType) : Type 0 where
+pub record CanBeInnerInScope (element : Bool) (p : AddedType) : Type 0 where
   pub scope : IsScope p.0
-  pub stands : CanStand element (p.0).table.version (p.0).table.types p.1
+  pub stands : CanBeInner element (p.0).table.version (p.0).table.types p.1
 
 pub known_stands : (element : Bool) (version : ℕ) (types : List Node) (i : ℕ) → IsKnown types i
-    → CanStand element version types i
+    → CanBeInner element version types i
 known_stands true version types i known = inl known
 known_stands false version types i known = known
 
 -- this is still true after one more node
-pub sound_node : (s : Scope) (n : Node) → IsScope s → TakesOctet n → Sound (with_node s n)
+pub sound_node : (s : Scope) (n : Node) → IsScope s → TakesOctet n → IsKnownInScope (with_node s n)
 sound_node s n is takes = search (arith, scope_grows, node_known)
 
 -- ---- types
 
 pub record TakenType (s : Scope) (text : List ℕ) (x : TypeRead) : Type 0 where
   pub expr : TypeExpr
-  pub took : Took (spell_type expr) (OfType kinds.Syntax false s.names expr) text x.2
-  pub grows : Grows s x.0
-  pub sound : IsScope s → Sound (x.0, x.1)
+  pub took : SpellsUpTo (spell_type expr) (OfType kinds.Syntax false s.names expr) text x.2
+  pub grows : AddsOnlyTypes s x.0
+  pub sound : IsScope s → IsKnownInScope (x.0, x.1)
 
 -- a type that was read, perhaps as that of a sequence's elements
-pub record TakenIn (element : Bool) (s : Scope) (text : List ℕ) (x : TypeRead) : Type 0 where
+pub record TakenInnerType (element : Bool) (s : Scope) (text : List ℕ) (x : TypeRead) : Type 0 where
   pub expr : TypeExpr
-  pub took : Took (spell_type expr) (OfType kinds.Syntax element s.names expr) text x.2
-  pub grows : Grows s x.0
-  pub sound : IsScope s → SoundIn element (x.0, x.1)
+  pub took : SpellsUpTo (spell_type expr) (OfType kinds.Syntax element s.names expr) text x.2
+  pub grows : AddsOnlyTypes s x.0
+  pub sound : IsScope s → CanBeInnerInScope element (x.0, x.1)
 
 free_in : (element : Bool) (names : Names) (e : TypeExpr) → OfType kinds.Syntax false names e
     → OfType kinds.Syntax element names e
@@ -109,7 +109,7 @@ free_in element names (Base p) free = free
 free_in element names _ free = free
 
 taken_in : (element : Bool) (s : Scope) (text : List ℕ) (x : TypeRead) → TakenType s text x
-    → TakenIn element s text x
+    → TakenInnerType element s text x
 taken_in element s text x t = record {
   expr = t.expr;
   took = record { free = free_in element s.names t.expr t.took.free; front = t.took.front };
@@ -121,7 +121,7 @@ taken_in element s text x t = record {
       };
 }
 
-taken_type : (s : Scope) (text : List ℕ) (x : TypeRead) → TakenIn false s text x
+taken_type : (s : Scope) (text : List ℕ) (x : TypeRead) → TakenInnerType false s text x
     → TakenType s text x
 taken_type s text x t = record {
   expr = t.expr;
@@ -137,21 +137,21 @@ known_after types more version k e is =
 
 -- the types that the file began with
 same_known : (s : Scope) (k : ℕ) → IsScope s → k < length (first_types s.names.version)
-    → Sound (s, k)
+    → IsKnownInScope (s, k)
 same_known s k is lt = record {
   scope = is;
   known = known_after s.table.types (is.begins).0 s.names.version k (is.begins).1
       (record { below = lt; takes = first_takes s.names.version k lt });
 }
 
-leaf_known : (s : Scope) (k : ℕ) → IsScope s → k < CONTEXT_ID → Sound (s, k)
+leaf_known : (s : Scope) (k : ℕ) → IsScope s → k < CONTEXT_ID → IsKnownInScope (s, k)
 leaf_known s k is lt = same_known s k is (first_leaf s.names.version k lt)
 
-third_known : (s : Scope) (k : ℕ) → IsScope s → is_third s.names ≡ true → k < THIRD_LEN
-    → Sound (s, k)
+third_known : (s : Scope) (k : ℕ) → IsScope s → is_version_3 s.names ≡ true → k < THIRD_LEN
+    → IsKnownInScope (s, k)
 third_known s k is third lt = same_known s k is (first_third s.names.version k third lt)
 
-pub base_sound : (s : Scope) (p : Primitive) → IsScope s → Sound (s, base_number p)
+pub base_sound : (s : Scope) (p : Primitive) → IsScope s → IsKnownInScope (s, base_number p)
 base_sound s prims.Octet is = leaf_known s 0 is (lit< tt)
 base_sound s prims.Char is = leaf_known s 1 is (lit< tt)
 base_sound s prims.Boolean is = leaf_known s 2 is (lit< tt)
@@ -165,7 +165,7 @@ base_sound s prims.Float is = leaf_known s 9 is (lit< tt)
 base_sound s prims.Double is = leaf_known s 10 is (lit< tt)
 
 -- the word of a primitive, and its number
-abbrev BaseWord : List ℕ → ℕ → Type 0
+abbrev BaseWord : (w : List ℕ) (k : ℕ) → Type 0
 BaseWord w k = (p : Primitive) × (w ≡ base_word p) × (base_number p ≡ k)
 
 pick_by : (p : Primitive) (w : List ℕ) (k : ℕ) (o : Option ℕ) (v : Bool)
@@ -179,7 +179,7 @@ pick : (p : Primitive) (w : List ℕ) (k : ℕ) (o : Option ℕ)
     → (o ≡ Some k → BaseWord w k) → BaseWord w k
 pick p w k o e on = search (arith, pick_by)
 
-base_from : (w : List ℕ) (k : ℕ) → base_of w ≡ Some k → BaseWord w k
+base_from : (w : List ℕ) (k : ℕ) → primitive_of_word w ≡ Some k → BaseWord w k
 base_from w k e =
     pick prims.Octet w k _ e (λ e. pick prims.Char w k _ e
     (λ e. pick prims.Boolean w k _ e (λ e.
@@ -189,25 +189,26 @@ base_from w k e =
     pick prims.ULongLong w k _ e (λ e. pick prims.Float w k _ e (λ e.
     pick prims.Double w k _ e (λ e. absurd cc)))))))))))
 
-base_took : (s : Scope) (text w rest : List ℕ) (k : ℕ) → Takes text (word w) rest → BaseWord w k
+base_took : (s : Scope) (text w rest : List ℕ) (k : ℕ) → TakesToken text (word w) rest
+    → BaseWord w k
     → TakenType s text (s, k, rest)
 unfolding OfType
 base_took s text w rest k t b = record {
   expr = Base b.0;
-  took = record { free = tt; front = subst (λ v. Takes text (word v) rest) b.1 t };
+  took = record { free = tt; front = subst (λ v. TakesToken text (word v) rest) b.1 t };
   grows = grows_none s;
-  sound = λ is. subst (λ n. Sound (s, n)) b.2 (base_sound s b.0 is);
+  sound = λ is. subst (λ n. IsKnownInScope (s, n)) b.2 (base_sound s b.0 is);
 }
 
-text_type_sound : (s : Scope) (b : Option ℕ) → IsScope s → Sound (add_text_type s b)
+text_type_sound : (s : Scope) (b : Option ℕ) → IsScope s → IsKnownInScope (add_text_type s b)
 text_type_sound s None is = leaf_known s STRING is (lit< tt)
 text_type_sound s (Some n) is = search (arith, sound_node)
 
-text_type_grows : (s : Scope) (b : Option ℕ) → Grows s (add_text_type s b).0
+text_type_grows : (s : Scope) (b : Option ℕ) → AddsOnlyTypes s (add_text_type s b).0
 text_type_grows s None = grows_none s
 text_type_grows s (Some n) = search (arith, node_grows)
 
-text_took : (s : Scope) (text w rest : List ℕ) (x : TypeRead) → Takes text (word w) rest
+text_took : (s : Scope) (text w rest : List ℕ) (x : TypeRead) → TakesToken text (word w) rest
     → w ≡ codes "string" → text_at s rest ≡ Ok x → TakenType s text x
 unfolding text_at OfType
 text_took s text w rest x t same e =
@@ -218,7 +219,7 @@ text_took s text w rest x t same e =
       took = record {
         free = bound_free (b.0).0;
         front =
-            λ more m. subst (λ v. Takes text (word v) rest) same t _ (bound.front more m);
+            λ more m. subst (λ v. TakesToken text (word v) rest) same t _ (bound.front more m);
       };
       grows = text_type_grows s (b.0).0;
       sound = λ is. text_type_sound s (b.0).0 is;
@@ -230,14 +231,14 @@ some_is x y e = cc
 -- a name that was found is that of a type
 found_known : (types : List Node) (names : List (List ℕ × Option ℕ)) (w : List ℕ) (k : ℕ) (v : Bool)
     (e : List ℕ × Option ℕ) → bytes_eq w e.0 ≡ v → IsDeclaredName types e
-    → (flat (lookup (bytes_eq w) names) ≡ Some k → IsKnown types k)
-    → flat (cond v (Some e.1) (lookup (bytes_eq w) names)) ≡ Some k → IsKnown types k
+    → (option_flatten (lookup (bytes_eq w) names) ≡ Some k → IsKnown types k)
+    → option_flatten (cond v (Some e.1) (lookup (bytes_eq w) names)) ≡ Some k → IsKnown types k
 found_known types names w k true e same is rest h = search (arith)
 found_known types names w k false e same is rest h = rest h
 
 pub named_known : (types : List Node) (names : List (List ℕ × Option ℕ)) (w : List ℕ) (k : ℕ)
     → AllByRecursion (IsDeclaredName types) names
-    → flat (lookup (bytes_eq w) names) ≡ Some k → IsKnown types k
+    → option_flatten (lookup (bytes_eq w) names) ≡ Some k → IsKnown types k
 named_known types [] w k all h = absurd cc
 named_known types (e ∷ es) w k all h = found_known types es w k (bytes_eq w e.0) e refl all.0
     (named_known types es w k all.1) h
@@ -264,7 +265,8 @@ announced_known version types (e ∷ es) w a all h =
 
 stands_by : (element : Bool) (s : Scope) (w : List ℕ) (k : ℕ) (o : Option ℕ)
     (a : Option Announced) → IsScope s → named s.names w ≡ o → announced_as s.names w ≡ a
-    → or_announced element o a ≡ Some k → CanStand element s.table.version s.table.types k
+    → declared_or_announced element o a ≡ Some k
+    → CanBeInner element s.table.version s.table.types k
 stands_by element s w k (Some n) a is p q e =
     known_stands element s.table.version s.table.types k
     (named_known s.table.types s.names.known w k is.names (p ∙ e))
@@ -277,12 +279,12 @@ stands_by false s w k None a is p q e = absurd cc
 
 found_by : (element : Bool) (s : Scope) (text w rest : List ℕ) (x : TypeRead) (o : Option ℕ)
     → type_named element s.names w ≡ o
-    → is_reserved (is_third s.names) w ≡ false → Takes text (word w) rest
-    → found_type s text rest o ≡ Ok x → TakenIn element s text x
+    → is_reserved (is_version_3 s.names) w ≡ false → TakesToken text (word w) rest
+    → type_if_found s text rest o ≡ Ok x → TakenInnerType element s text x
 unfolding OfType
 found_by element s text w rest x None o free t e = absurd cc
 found_by element s text w rest x (Some n) o free t e =
-    subst (TakenIn element s text) (ok_is (s, n, rest) x e) (record {
+    subst (TakenInnerType element s text) (ok_is (s, n, rest) x e) (record {
       expr = Named w;
       took = record { free = free; front = t };
       grows = grows_none s;
@@ -294,21 +296,23 @@ found_by element s text w rest x (Some n) o free t e =
     })
 
 named_by : (element : Bool) (s : Scope) (text w rest : List ℕ) (x : TypeRead) (a b : Bool)
-    → is_reserved (is_third s.names) w ≡ a
-    → Takes text (word w) rest → cond a (Err (misplaced text))
-    (cond b (Err (refused kinds.Limit text)) (found_type s text rest
+    → is_reserved (is_version_3 s.names) w ≡ a
+    → TakesToken text (word w) rest → cond a (Err (misplaced text))
+    (cond b (Err (refused kinds.Limit text)) (type_if_found s text rest
     (type_named element s.names w)))
-    ≡ Ok x → TakenIn element s text x
+    ≡ Ok x → TakenInnerType element s text x
 named_by element s text w rest x true b free t e = absurd cc
 named_by element s text w rest x false true free t e = absurd cc
 named_by element s text w rest x false false free t e =
     found_by element s text w rest x (type_named element s.names w) refl free t e
 
 named_took : (element : Bool) (s : Scope) (text w rest : List ℕ) (x : TypeRead)
-    → Takes text (word w) rest → named_type element s text w rest ≡ Ok x → TakenIn element s text x
+    → TakesToken text (word w) rest → named_type element s text w rest ≡ Ok x
+    → TakenInnerType element s text x
 unfolding named_type
 named_took element s text w rest x t e =
-    named_by element s text w rest x (is_reserved (is_third s.names) w) (ltb 64 (length w)) refl t e
+    named_by element s text w rest x (is_reserved (is_version_3 s.names) w)
+    (ltb 64 (length w)) refl t e
 
 later_is : (w v : List ℕ) (third : Bool) → (third && bytes_eq w v) ≡ true
     → (third ≡ true) × (w ≡ v)
@@ -317,28 +321,29 @@ later_is w v false e = absurd cc
 
 -- a type of a word that only version 3 has
 later_took : (s : Scope) (text w v rest : List ℕ) (k : ℕ) (expr : TypeExpr)
-    → Takes text (word w) rest → is_later s w v ≡ true
+    → TakesToken text (word w) rest → is_version_3_word s w v ≡ true
     → ((more : List Token) → spell_type expr more ≡ word v ∷ more)
-    → (is_third s.names ≡ true → OfType kinds.Syntax false s.names expr) → k < THIRD_LEN
+    → (is_version_3 s.names ≡ true → OfType kinds.Syntax false s.names expr) → k < THIRD_LEN
     → TakenType s text (s, k, rest)
 later_took s text w v rest k expr t later spells free lt =
-    let is = later_is w v (is_third s.names) later in
+    let is = later_is w v (is_version_3 s.names) later in
     record {
       expr = expr;
       took = record {
         free = free is.0;
         front = λ more m. subst (AreTokens text) (sym (spells more))
-            (subst (λ u. Takes text (word u) rest) is.1 t more m);
+            (subst (λ u. TakesToken text (word u) rest) is.1 t more m);
       };
       grows = grows_none s;
       sound = λ h. third_known s k h is.0 lt;
     }
 
-wide_text_took : (s : Scope) (text w rest : List ℕ) (x : TypeRead) → Takes text (word w) rest
-    → is_later s w (codes "wstring") ≡ true → wide_text_at s rest ≡ Ok x → TakenType s text x
+wide_text_took : (s : Scope) (text w rest : List ℕ) (x : TypeRead) → TakesToken text (word w) rest
+    → is_version_3_word s w (codes "wstring") ≡ true → wide_text_at s rest ≡ Ok x
+    → TakenType s text x
 unfolding wide_text_at OfType
 wide_text_took s text w rest x t later e =
-    let is = later_is w (codes "wstring") (is_third s.names) later in
+    let is = later_is w (codes "wstring") (is_version_3 s.names) later in
     let b = bind_ok {A = Option ℕ × List ℕ} _ _ x e in
     let bound = enclosed_takes marks.OpenAngle marks.CloseAngle rest b.0 b.1 in
     subst (TakenType s text) (ok_is (s, WIDE_STRING, (b.0).1) x b.2) (record {
@@ -346,18 +351,19 @@ wide_text_took s text w rest x t later e =
       took = record {
         free = (is.0, bound_free (b.0).0);
         front =
-            λ more m. subst (λ v. Takes text (word v) rest) is.1 t _ (bound.front more m);
+            λ more m. subst (λ v. TakesToken text (word v) rest) is.1 t _ (bound.front more m);
       };
       grows = grows_none s;
       sound = λ h. third_known s WIDE_STRING h is.0 (lit< tt);
     })
 
 wide_by : (element : Bool) (s : Scope) (text w rest : List ℕ) (x : TypeRead)
-    → Takes text (word w) rest
-    → (a b : Bool) → is_later s w (codes "wchar") ≡ a → is_later s w (codes "wstring") ≡ b
+    → TakesToken text (word w) rest
+    → (a b : Bool) → is_version_3_word s w (codes "wchar") ≡ a → is_version_3_word s w
+    (codes "wstring") ≡ b
     → cond a (Ok (s, WIDE_CHAR, rest))
     (cond b (wide_text_at s rest) (named_type element s text w rest))
-    ≡ Ok x → TakenIn element s text x
+    ≡ Ok x → TakenInnerType element s text x
 unfolding OfType
 wide_by element s text w rest x t true b p q e = taken_in element s text x
     (subst (TakenType s text) (ok_is (s, WIDE_CHAR, rest) x e)
@@ -368,17 +374,20 @@ wide_by element s text w rest x t false true p q e =
 wide_by element s text w rest x t false false p q e = named_took element s text w rest x t e
 
 -- wide text for its word, or the type of a name
-abbrev wide_or_named : Bool → Scope → List ℕ → List ℕ → List ℕ → Result TypeRead TokenError
+abbrev wide_or_named : (element : Bool) (scope : Scope) (text w rest : List ℕ) →
+    Result TypeRead TokenError
 wide_or_named element s text w rest =
-    cond (is_later s w (codes "wchar")) (Ok (s, WIDE_CHAR, rest))
-    (cond (is_later s w (codes "wstring")) (wide_text_at s rest) (named_type element s text w rest))
+    cond (is_version_3_word s w (codes "wchar")) (Ok (s, WIDE_CHAR, rest))
+    (cond (is_version_3_word s w (codes "wstring")) (wide_text_at s rest)
+    (named_type element s text w rest))
 
 later_by : (element : Bool) (s : Scope) (text w rest : List ℕ) (x : TypeRead)
-    → Takes text (word w) rest
-    → (a b : Bool) → is_later s w (codes "any") ≡ a → is_later s w (codes "TypeCode") ≡ b
+    → TakesToken text (word w) rest
+    → (a b : Bool) → is_version_3_word s w (codes "any") ≡ a → is_version_3_word s w
+    (codes "TypeCode") ≡ b
     → cond a (Ok (s, ANY, rest))
     (cond b (Ok (s, TYPE_CODE, rest)) (wide_or_named element s text w rest))
-    ≡ Ok x → TakenIn element s text x
+    ≡ Ok x → TakenInnerType element s text x
 unfolding OfType
 later_by element s text w rest x t true b p q e = taken_in element s text x
     (subst (TakenType s text) (ok_is (s, ANY, rest) x e)
@@ -389,22 +398,23 @@ later_by element s text w rest x t false true p q e = taken_in element s text x
     (later_took s text w (codes "TypeCode") rest TYPE_CODE CodeType t q (λ more. refl) (λ is. is)
     (lit< tt)))
 later_by element s text w rest x t false false p q e =
-    wide_by element s text w rest x t (is_later s w (codes "wchar"))
-    (is_later s w (codes "wstring")) refl refl e
+    wide_by element s text w rest x t (is_version_3_word s w (codes "wchar"))
+    (is_version_3_word s w (codes "wstring")) refl refl e
 
 -- a type for a word of version 3, or for a name
-abbrev later_or_named : Bool → Scope → List ℕ → List ℕ → List ℕ → Result TypeRead TokenError
+abbrev later_or_named : (element : Bool) (scope : Scope) (text w rest : List ℕ) →
+    Result TypeRead TokenError
 later_or_named element s text w rest =
-    cond (is_later s w (codes "any")) (Ok (s, ANY, rest))
-    (cond (is_later s w (codes "TypeCode")) (Ok (s, TYPE_CODE, rest))
+    cond (is_version_3_word s w (codes "any")) (Ok (s, ANY, rest))
+    (cond (is_version_3_word s w (codes "TypeCode")) (Ok (s, TYPE_CODE, rest))
     (wide_or_named element s text w rest))
 
 leaf_by : (element : Bool) (s : Scope) (text w rest : List ℕ) (x : TypeRead)
-    → Takes text (word w) rest
+    → TakesToken text (word w) rest
     → (a b : Bool) → bytes_eq w (codes "string") ≡ a → bytes_eq w (codes "Object") ≡ b
     → cond a (text_at s rest)
     (cond b (Ok (s, reference_number s.names, rest)) (later_or_named element s text w rest))
-    ≡ Ok x → TakenIn element s text x
+    ≡ Ok x → TakenInnerType element s text x
 unfolding OfType
 leaf_by element s text w rest x t true b p q e = taken_in element s text x
     (text_took s text w rest x t ((bytes_eq-Decides w (codes "string")).0 p) e)
@@ -413,7 +423,7 @@ leaf_by element s text w rest x t false true p q e = taken_in element s text x
       expr = Reference;
       took = record {
         free = tt;
-        front = subst (λ v. Takes text (word v) rest)
+        front = subst (λ v. TakesToken text (word v) rest)
             ((bytes_eq-Decides w (codes "Object")).0 q) t;
       };
       grows = grows_none s;
@@ -421,12 +431,13 @@ leaf_by element s text w rest x t false true p q e = taken_in element s text x
           (first_known s.names.version IOR (lit< tt));
     }))
 leaf_by element s text w rest x t false false p q e =
-    later_by element s text w rest x t (is_later s w (codes "any"))
-    (is_later s w (codes "TypeCode")) refl refl e
+    later_by element s text w rest x t (is_version_3_word s w (codes "any"))
+    (is_version_3_word s w (codes "TypeCode")) refl refl e
 
 leaf_took : (element : Bool) (s : Scope) (text w rest : List ℕ) (x : TypeRead) (o : Option ℕ)
-    → Takes text (word w) rest → base_of w ≡ o → leaf_after element s text w rest o ≡ Ok x
-    → TakenIn element s text x
+    → TakesToken text (word w) rest → primitive_of_word w ≡ o → leaf_after element s text w rest o
+    ≡ Ok x
+    → TakenInnerType element s text x
 leaf_took element s text w rest x (Some k) t b e = taken_in element s text x
     (subst (TakenType s text) (ok_is (s, k, rest) x e)
     (base_took s text w rest k t (base_from w k b)))
@@ -435,21 +446,23 @@ leaf_took element s text w rest x None t b e =
     refl refl e
 
 pub leaf_takes : (element : Bool) (s : Scope) (text : List ℕ) (x : TypeRead)
-    → leaf_at element s text ≡ Ok x → TakenIn element s text x
+    → leaf_at element s text ≡ Ok x → TakenInnerType element s text x
 unfolding leaf_at
 leaf_takes element s text x e =
-    let w = bind_ok (word_at text) (λ w. leaf_after element s text w.0 w.1 (base_of w.0)) x e in
-    leaf_took element s text (w.0).0 (w.0).1 x (base_of (w.0).0) (word_takes text w.0 w.1) refl w.2
+    let w = bind_ok (word_at text) (λ w. leaf_after element s text w.0 w.1 (primitive_of_word w.0))
+    x e in
+    leaf_took element s text (w.0).0 (w.0).1 x (primitive_of_word (w.0).0)
+    (word_takes text w.0 w.1) refl w.2
 
 -- ---- types with others in them
 
 -- the word that begins a type
-abbrev opener_word : Opener → List ℕ
+abbrev opener_word : (opener : Opener) → List ℕ
 opener_word openers.Sequence = codes "sequence"
 opener_word openers.Encapsulation = codes "encapsulation"
 
 -- only files of version 2 or later may have an encapsulation
-abbrev IsAllowed : Names → Opener → Type 0
+abbrev IsAllowed : (names : Names) (opener : Opener) → Type 0
 IsAllowed names openers.Sequence = Unit {0}
 IsAllowed names openers.Encapsulation = has_encapsulations names ≡ true
 
@@ -460,19 +473,19 @@ record TakenOpener (s : Scope) (text : List ℕ) (o : Opened) : Type 0 where
       → AreTokens text (word (opener_word o.0) ∷ mark marks.OpenAngle ∷ more)
 
 opened_by_took : (s : Scope) (text w rest : List ℕ) (k : Opener) (o : Opened)
-    → Takes text (word w) rest → w ≡ opener_word k → IsAllowed s.names k
+    → TakesToken text (word w) rest → w ≡ opener_word k → IsAllowed s.names k
     → opened_by k rest ≡ Ok (Some o) → TakenOpener s text o
 opened_by_took s text w rest k o t same allowed e =
     let m = bind_ok {A = List ℕ} _ _ (Some o) e in
     let is : (k, m.0) ≡ o = some_is (k, m.0) o (ok_is (Some (k, m.0)) (Some o) m.2) in
     subst (TakenOpener s text) is (record {
       allowed = allowed;
-      front = λ more h. subst (λ v. Takes text (word v) rest) same t
+      front = λ more h. subst (λ v. TakesToken text (word v) rest) same t
           (mark marks.OpenAngle ∷ more) (mark_takes marks.OpenAngle rest m.0 m.1 more h);
     })
 
 opener_by : (s : Scope) (text w rest : List ℕ) (o : Opened) (a b c : Bool)
-    → Takes text (word w) rest → bytes_eq w (codes "sequence") ≡ a
+    → TakesToken text (word w) rest → bytes_eq w (codes "sequence") ≡ a
     → bytes_eq w (codes "encapsulation") ≡ b → has_encapsulations s.names ≡ c
     → cond a (opened_by openers.Sequence rest)
     (cond b (cond c (opened_by openers.Encapsulation rest) (Err (misplaced text))) (Ok None))
@@ -510,29 +523,30 @@ sequence_takes types bound n =
     sequence_takes_octet bound n (eqb n 0) (announced_index (node_in types n))
 
 -- what was closed may be a part, too
-pub closed_sound : (o : Opener) (t x : TypeRead) → closed_by o t ≡ Ok x → IsScope t.0
-    → Sound (x.0, x.1)
-unfolding closed_by
+pub closed_sound : (o : Opener) (t x : TypeRead) → opener_closed o t ≡ Ok x → IsScope t.0
+    → IsKnownInScope (x.0, x.1)
+unfolding opener_closed
 closed_sound openers.Sequence t x e is =
-    let b = bind_ok (most_at t.2) (λ b. mark_at marks.CloseAngle b.1
+    let b = bind_ok (comma_size_at t.2) (λ b. mark_at marks.CloseAngle b.1
     >>= λ r. Ok (read_as (add_sequence_type b.0 (t.0, t.1)) r)) x e in
     let r = bind_ok (mark_at marks.CloseAngle (b.0).1)
     (λ r. Ok (read_as (add_sequence_type (b.0).0 (t.0, t.1)) r)) x b.2 in
-    subst (λ (y : TypeRead). Sound (y.0, y.1))
+    subst (λ (y : TypeRead). IsKnownInScope (y.0, y.1))
     (ok_is (read_as (add_sequence_type (b.0).0 (t.0, t.1)) r.0) x r.2)
     (sound_node t.0 (sequence_node (t.0).table.types (b.0).0 t.1) is
     (sequence_takes (t.0).table.types (b.0).0 t.1))
 closed_sound openers.Encapsulation t x e is =
     let r = bind_ok (mark_at marks.CloseAngle t.2)
     (λ r. Ok (read_as (add_encapsulation_type (t.0, t.1)) r)) x e in
-    subst (λ (y : TypeRead). Sound (y.0, y.1))
+    subst (λ (y : TypeRead). IsKnownInScope (y.0, y.1))
     (ok_is (read_as (add_encapsulation_type (t.0, t.1)) r.0) x r.2)
     (sound_node t.0 (nodes.encapsulation t.1) is tt)
 
 closed_took : (s : Scope) (text : List ℕ) (o : Opener) (inner : List ℕ) (t x : TypeRead)
-    → TakenOpener s text (o, inner) → TakenIn (opens_element o) s inner t → closed_by o t ≡ Ok x
+    → TakenOpener s text (o, inner) → TakenInnerType (opens_element o) s inner t → opener_closed o t
+    ≡ Ok x
     → TakenType s text x
-unfolding OfType closed_by
+unfolding OfType opener_closed
 closed_took s text openers.Sequence inner t x k u e =
     let b = bind_ok {A = Option ℕ × List ℕ} _ _ x e in
     let r = bind_ok {A = List ℕ} _ _ x b.2 in
@@ -572,22 +586,22 @@ closed_took s text openers.Encapsulation inner t x k u e =
 
 type_by : (inner : Bool → List ℕ → Result TypeRead TokenError) (element : Bool) (s : Scope)
     (text : List ℕ) (o : Option Opened) (x : TypeRead)
-    → ((b : Bool) (text : List ℕ) (y : TypeRead) → inner b text ≡ Ok y → TakenIn b s text y)
+    → ((b : Bool) (text : List ℕ) (y : TypeRead) → inner b text ≡ Ok y → TakenInnerType b s text y)
     → opener_at s text ≡ Ok o → type_after inner element s text o ≡ Ok x
-    → TakenIn element s text x
+    → TakenInnerType element s text x
 type_by inner element s text None x takes h e = leaf_takes element s text x e
 type_by inner element s text (Some o) x takes h e =
-    let t = bind_ok (inner (opens_element o.0) o.1) (closed_by o.0) x e in
+    let t = bind_ok (inner (opens_element o.0) o.1) (opener_closed o.0) x e in
     taken_in element s text x
     (closed_took s text o.0 o.1 t.0 x (opener_takes s text o h)
     (takes (opens_element o.0) o.1 t.0 t.1) t.2)
 
 nested_takes : (left : ℕ) (element : Bool) (s : Scope) (text : List ℕ) (x : TypeRead)
-    → nested_at left element s text ≡ Ok x → TakenIn element s text x
-unfolding nested_at
+    → type_nested_at left element s text ≡ Ok x → TakenInnerType element s text x
+unfolding type_nested_at
 nested_takes zero element s text x e = absurd cc
 nested_takes (suc left) element s text x e =
-    let inner : Bool → List ℕ → Result TypeRead TokenError = λ b. nested_at left b s in
+    let inner : Bool → List ℕ → Result TypeRead TokenError = λ b. type_nested_at left b s in
     let o = bind_ok (opener_at s text) (type_after inner element s text) x e in
     type_by inner element s text o.0 x (λ b t y h. nested_takes left b s t y h) o.1 o.2
 

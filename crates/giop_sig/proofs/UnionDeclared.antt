@@ -5,34 +5,34 @@ use Rattle.std.specs.Prelude.{codes}
 use Rattle.std.proofs.lemmas.List.{length-append}
 use Rattle.giop_tokens.specs.declared.fault.SigFaultKind.TheVariants as kinds
 use Rattle.giop_tokens.specs.declared.marks.Mark.TheVariants as marks
-use Rattle.giop_tokens.specs.Tokens.{word, mark, left_of}
-use Rattle.giop_tokens.proofs.ReaderLaws.{bind_ok, ok_is, Takes, mark_takes, keyword_takes}
+use Rattle.giop_tokens.specs.Tokens.{word, mark, octets_left_at_token}
+use Rattle.giop_tokens.proofs.ReaderLaws.{bind_ok, ok_is, TakesToken, mark_takes, keyword_takes}
 use Rattle.giop_sig.specs.declared.announced.TypeWord.TheVariants as type_words
 use Rattle.giop_sig.specs.Table.{Node, node_at, IsScalarNode, IsFormed}
 use Rattle.giop_sig.specs.Table as nodes
 use Rattle.giop_sig.specs.Grammar.{TypeExpr, DeclaredUnion, spell_type, spell_cases, spell_identity}
 use Rattle.giop_sig.specs.Scopes.{Scope, add_type, with_node, with_named}
-use Rattle.giop_sig.specs.Validity.{OfType, IsDiscriminator, OfCases, OfDeclaration, placed_node}
+use Rattle.giop_sig.specs.Validity.{OfType, IsDiscriminator, OfCases, OfDeclaration, added_node}
 use Rattle.giop_sig.specs.ScopeViews.{IsScope}
 use Rattle.giop_sig.specs.Outcomes.{refused}
 use Rattle.giop_sig.specs.TypeReading.{TypeRead}
-use Rattle.giop_sig.specs.ItemReading.{announces_at, announcement_at, declared_at, IdentityRead, Declared}
+use Rattle.giop_sig.specs.ItemReading.{announces_at, announcement_at, declared_name_at, IdentityRead, DeclarationRead}
 use Rattle.giop_sig.specs.UnionReading.{CasesRead, cases_at, union_node, can_switch, switch_at, union_after, union_at}
-use Rattle.giop_sig.proofs.TypeTaken.{Grows, grows_on, TakenType, type_takes}
+use Rattle.giop_sig.proofs.TypeTaken.{AddsOnlyTypes, grows_on, TakenType, type_takes}
 use Rattle.giop_sig.proofs.ItemTaken.{declared_takes, end_takes, TakenDeclaration}
 use Rattle.giop_sig.proofs.AnnouncedLaws.{announces_third, announcement_takes}
 use Rattle.giop_sig.proofs.IdentityLaws.{identity_takes}
 use Rattle.giop_sig.proofs.UnionLaws.{node_stays}
 use Rattle.giop_sig.proofs.UnionReads.{discriminates, below_size}
 use Rattle.giop_sig.proofs.UnionTaken.{cases_taken}
-use Rattle.giop_sig.proofs.ReadingLaws.{Took}
+use Rattle.giop_sig.proofs.ReadingLaws.{SpellsUpTo}
 
 -- ---- the discriminator
 
 record TakenSwitch (s : Scope) (text : List ℕ) (x : TypeRead) : Type 0 where
   pub expr : TypeExpr
-  pub took : Took (spell_type expr) (OfType kinds.Syntax false s.names expr) text x.2
-  pub grows : Grows s x.0
+  pub took : SpellsUpTo (spell_type expr) (OfType kinds.Syntax false s.names expr) text x.2
+  pub grows : AddsOnlyTypes s x.0
   pub scope : IsScope s → IsScope x.0
   pub is : IsDiscriminator (node_at (x.0).table x.1)
 
@@ -72,16 +72,16 @@ union_formed s a b t x e f is =
     (record { below = omega arith; scalar = scalar }, c.few scope, c.parts scope, c.below scope)
 
 pub union_grows : (s : Scope) (a b : List ℕ) (t : TypeRead) (x : CasesRead)
-    → switch_at s a ≡ Ok t → cases_at t.1 t.0 b ≡ Ok x → Grows s x.0
+    → switch_at s a ≡ Ok t → cases_at t.1 t.0 b ≡ Ok x → AddsOnlyTypes s x.0
 union_grows s a b t x e f = grows_on s t.0 x.0 (switch_taken s a t e).grows
     (cases_taken t.1 t.0 b x f).grows
 
 -- ---- the declaration
 
 -- the text that was read spells the union
-union_by : (s : Scope) (whole text : List ℕ) (d : List ℕ × List ℕ) (x : Declared)
-    → Takes whole (word (codes "union")) text
-    → declared_at s (Some type_words.Union) s.table.declared text ≡ Ok d
+union_by : (s : Scope) (whole text : List ℕ) (d : List ℕ × List ℕ) (x : DeclarationRead)
+    → TakesToken whole (word (codes "union")) text
+    → declared_name_at s (Some type_words.Union) s.table.declared text ≡ Ok d
     → union_after s text d.0 d.1 ≡ Ok x → TakenDeclaration s whole x
 unfolding union_after OfDeclaration
 union_by s whole text d x before taken e =
@@ -94,12 +94,12 @@ union_by s whole text d x before taken e =
     let o = bind_ok {A = List ℕ} _ _ x q.2 in
     let cs = bind_ok {A = CasesRead} _ _ x o.2 in
     let last = with_named n (i.0).0 (with_node (cs.0).0 (union_node (t.0).1 cs.0)) in
-    let r = end_takes (left_of text) last (cs.0).2 x cs.2 in
+    let r = end_takes (octets_left_at_token text) last (cs.0).2 x cs.2 in
     let a = declared_takes s (Some type_words.Union) s.table.declared text d taken in
     let u = (identity_takes s d.1 i.0 i.1).took in
     let k = switch_taken s b.0 t.0 t.1 in
     let c = cases_taken (t.0).1 (t.0).0 o.0 cs.0 cs.1 in
-    let node = placed_node (add_type s k.expr) in
+    let node = added_node (add_type s k.expr) in
     record {
       declaration = DeclaredUnion n (i.0).0 k.expr c.cases;
       took = record {
@@ -130,9 +130,9 @@ union_by s whole text d x before taken e =
       shallow = r.shallow;
     }
 
-union_or : (s : Scope) (whole text : List ℕ) (d : List ℕ × List ℕ) (x : Declared) (v : Bool)
-    → Takes whole (word (codes "union")) text
-    → declared_at s (Some type_words.Union) s.table.declared text ≡ Ok d
+union_or : (s : Scope) (whole text : List ℕ) (d : List ℕ × List ℕ) (x : DeclarationRead) (v : Bool)
+    → TakesToken whole (word (codes "union")) text
+    → declared_name_at s (Some type_words.Union) s.table.declared text ≡ Ok d
     → announces_at s d.1 ≡ Ok v
     → cond v (announcement_at s type_words.Union text d.0 d.1) (union_after s text d.0 d.1) ≡ Ok x
     → TakenDeclaration s whole x
@@ -141,8 +141,9 @@ union_or s whole text d x true before taken a e =
 union_or s whole text d x false before taken a e = union_by s whole text d x before taken e
 
 -- the text that was read spells the union, or its announcement
-pub union_takes : (s : Scope) (whole text : List ℕ) (x : Declared)
-    → Takes whole (word (codes "union")) text → union_at s text ≡ Ok x → TakenDeclaration s whole x
+pub union_takes : (s : Scope) (whole text : List ℕ) (x : DeclarationRead)
+    → TakesToken whole (word (codes "union")) text → union_at s text ≡ Ok x
+    → TakenDeclaration s whole x
 unfolding union_at
 union_takes s whole text x before e =
     let d = bind_ok {A = List ℕ × List ℕ} _ _ x e in

@@ -19,14 +19,14 @@ use Rattle.giop_sig.specs.declared.types.Selected.{Selected}
 use Rattle.giop_sig.specs.declared.types.Selected.TheVariants as selecteds
 use Rattle.giop_sig.specs.Table.{Case, Node, IsPart, IsCaseBelow}
 use Rattle.giop_sig.specs.Grammar.{Value, Truth, Enumerator, Label, Default, Of, UnionCase, spell_item, spell_value, spell_label, spell_labels, spell_cases}
-use Rattle.giop_sig.specs.Scopes.{is_third, Scope, labels_of}
+use Rattle.giop_sig.specs.Scopes.{is_version_3, Scope, labels_of}
 use Rattle.giop_sig.specs.Validity.{OfItem, OfValueName, OfLabel, OfLabels, OfCases}
 use Rattle.giop_sig.specs.ScopeViews.{IsScope}
 use Rattle.giop_sig.specs.Outcomes.{refused}
 use Rattle.giop_sig.specs.ItemReading.{ItemRead}
 use Rattle.giop_sig.specs.Repeats.{in_steps}
-use Rattle.giop_sig.specs.UnionReading.{token_value, value_at, Mark, LabelRead, fitting, number_of_value, unseen_label, label_by, label_at, LabelsRead, with_label, begins_label, label_or_end, labels_step, too_many_labels, labels_by, labels_at, Cases, no_cases, chosen, with_case, CasesRead, case_at, case_or_end, cases_step, too_many_cases, cases_at}
-use Rattle.giop_sig.proofs.TypeTaken.{Grows, grows_none, grows_on, grows_known}
+use Rattle.giop_sig.specs.UnionReading.{token_value, value_at, LabelMark, LabelRead, label_fitting, number_of_value, unseen_label, label_after_case, label_at, LabelsRead, with_label, begins_label, label_or_end, labels_step, too_many_labels, labels_by, labels_at, Cases, no_cases, first_default_case, with_case, CasesRead, case_at, case_or_end, cases_step, too_many_cases, cases_at}
+use Rattle.giop_sig.proofs.TypeTaken.{AddsOnlyTypes, grows_none, grows_on, grows_known}
 use Rattle.giop_sig.proofs.ItemTaken.{TakenItem, item_takes, filled_takes}
 use Rattle.giop_sig.proofs.LabelReads.{then_labels}
 use Rattle.giop_sig.proofs.UnionLaws.{then_cases}
@@ -69,7 +69,7 @@ record TakenNumber (third : Bool) (text rest : List ℕ) : Type 0 where
   taken : TakenValue third text (value, rest)
 
 fitting_by : {third : Bool} (text : List ℕ) (v : Value × List ℕ) (o : Option Number) (x : LabelRead)
-    → TakenValue third text v → fitting text v.1 o ≡ Ok x → TakenNumber third text x.1
+    → TakenValue third text v → label_fitting text v.1 o ≡ Ok x → TakenNumber third text x.1
 fitting_by text v None x t e = absurd cc
 fitting_by text v (Some n) x t e = search (arith, ok_is)
 
@@ -83,15 +83,15 @@ record TakenLabel (third : Bool) (text rest : List ℕ) : Type 0 where
   free : (node : Node) (seen : List Label) → OfLabel kinds.Syntax third node seen label
   front : (more : List Token) → AreTokens rest more → AreTokens text (spell_label label more)
 
-label_rest_is : {third : Bool} (text : List ℕ) (m : Mark) (rest : List ℕ) (x : LabelRead)
+label_rest_is : {third : Bool} (text : List ℕ) (m : LabelMark) (rest : List ℕ) (x : LabelRead)
     → (m, rest) ≡ x
     → TakenLabel third text rest → TakenLabel third text x.1
 label_rest_is text m rest x e t = search (arith)
 
-label_taken_by : {third : Bool} (node : Node) (seen : List Mark) (text : List ℕ)
+label_taken_by : {third : Bool} (node : Node) (seen : List LabelMark) (text : List ℕ)
     (o : Option (List ℕ))
     (x : LabelRead) → keyword_if (codes "case") text ≡ Ok o
-    → label_by third node seen text o ≡ Ok x → TakenLabel third text x.1
+    → label_after_case third node seen text o ≡ Ok x → TakenLabel third text x.1
 label_taken_by node seen text (Some inner) x h e =
     let v = bind_ok {A = LabelRead} _ _ x e in
     let m = bind_ok (unseen_label seen (v.0).0 inner)
@@ -117,7 +117,7 @@ label_taken_by node seen text None x h e =
           (mark_takes marks.Colon w.0 r.0 r.1 more k);
     })
 
-label_taken : {third : Bool} (node : Node) (seen : List Mark) (text : List ℕ) (x : LabelRead)
+label_taken : {third : Bool} (node : Node) (seen : List LabelMark) (text : List ℕ) (x : LabelRead)
     → label_at third node seen text ≡ Ok x → TakenLabel third text x.1
 unfolding label_at
 label_taken node seen text x e = search (arith, bind_ok, label_taken_by)
@@ -130,7 +130,8 @@ record TakenLabels (third : Bool) (text rest : List ℕ) : Type 0 where
   front : (more : List Token) → AreTokens rest more → AreTokens text (spell_labels labels more)
   some : begins_label text ≡ Ok true → (l : Label) × (ls : List Label) × (labels ≡ l ∷ ls)
 
-with_label_rest : (ls : LabelsRead) (m : Mark) (rest : List ℕ) → (with_label ls (m, rest)).3 ≡ rest
+with_label_rest : (ls : LabelsRead) (m : LabelMark) (rest : List ℕ) → (with_label ls (m, rest)).3
+    ≡ rest
 with_label_rest ls None rest = refl
 with_label_rest ls (Some n) rest = refl
 
@@ -184,7 +185,7 @@ labels_run_taken {third = third} node (suc left) ls x e =
     labels_taken_by node left ls b.0 s.0 x (labels_run_taken node left) b.1 b.2 s.2
 
 -- the labels of a case, at least one
-record TakenSome (third : Bool) (text rest : List ℕ) : Type 0 where
+record TakenCaseLabels (third : Bool) (text rest : List ℕ) : Type 0 where
   first : Label
   others : List Label
   free : (node : Node) (seen : List Label) → OfLabels kinds.Syntax third node seen (first ∷ others)
@@ -192,17 +193,18 @@ record TakenSome (third : Bool) (text rest : List ℕ) : Type 0 where
       → AreTokens text (spell_labels (first ∷ others) more)
 
 some_labels : {third : Bool} (text rest : List ℕ) → begins_label text ≡ Ok true
-    → TakenLabels third text rest → TakenSome third text rest
+    → TakenLabels third text rest → TakenCaseLabels third text rest
 some_labels text rest h t = search (arith)
 
-labels_taken_or : {third : Bool} (node : Node) (seen : List Mark) (text : List ℕ) (b : Bool)
+labels_taken_or : {third : Bool} (node : Node) (seen : List LabelMark) (text : List ℕ) (b : Bool)
     (x : LabelsRead)
-    → begins_label text ≡ Ok b → labels_by third node seen text b ≡ Ok x → TakenSome third text x.3
+    → begins_label text ≡ Ok b → labels_by third node seen text b ≡ Ok x
+    → TakenCaseLabels third text x.3
 labels_taken_or node seen text false x h e = absurd cc
 labels_taken_or node seen text true x h e = search (arith, some_labels, labels_run_taken)
 
-labels_taken : {third : Bool} (node : Node) (seen : List Mark) (text : List ℕ) (x : LabelsRead)
-    → labels_at third node seen text ≡ Ok x → TakenSome third text x.3
+labels_taken : {third : Bool} (node : Node) (seen : List LabelMark) (text : List ℕ) (x : LabelsRead)
+    → labels_at third node seen text ≡ Ok x → TakenCaseLabels third text x.3
 unfolding labels_at
 labels_taken node seen text x e = search (arith, bind_ok, labels_taken_or)
 
@@ -216,13 +218,13 @@ record SoundCases (s : Scope) (cs : Cases) : Type 0 where
   below : IsCaseBelow (length cs.cases) cs.otherwise
 
 chosen_below : (o : Selected) (default : Bool) (n : ℕ) → IsCaseBelow n o
-    → IsCaseBelow (n + 1) (chosen o default n)
+    → IsCaseBelow (n + 1) (first_default_case o default n)
 chosen_below selecteds.Nothing true n is = omega arith
 chosen_below selecteds.Nothing false n is = tt
 chosen_below (selecteds.Case j) default n is = omega arith
 chosen_below selecteds.Refused default n is = tt
 
-cases_stay : (s t : Scope) (cs : List Case) → Grows s t
+cases_stay : (s t : Scope) (cs : List Case) → AddsOnlyTypes s t
     → All (λ c. IsPart s.table.types (length s.table.types) c.part) cs
     → All (λ c. IsPart t.table.types (length t.table.types) c.part) cs
 cases_stay s t cs g all = λ k d lt. let is = all k d lt in
@@ -245,8 +247,10 @@ case_sound s cs ls i t is sound =
       few = omega arith;
       same = omega (arith, length-append cs.names ((i.1).name ∷ []));
       below =
-          subst (λ n. IsCaseBelow n (chosen cs.otherwise ls.2 (length cs.names))) (sym more)
-          (subst (λ n. IsCaseBelow (length cs.cases + 1) (chosen cs.otherwise ls.2 n)) (sym same)
+          subst (λ n. IsCaseBelow n (first_default_case cs.otherwise ls.2 (length cs.names)))
+          (sym more)
+          (subst (λ n. IsCaseBelow (length cs.cases + 1) (first_default_case cs.otherwise ls.2 n))
+          (sym same)
           (chosen_below cs.otherwise ls.2 (length cs.cases) sound.below));
     }
 
@@ -255,16 +259,16 @@ record TakenCase (x y : CasesRead) : Type 0 where
   case : UnionCase
   named : (y.1).names ≡ (x.1).names ++ case.item.name ∷ []
   free : (node : Node) (seen : List Label)
-      → OfLabels kinds.Syntax (is_third (x.0).names) node seen (labels_of case)
+      → OfLabels kinds.Syntax (is_version_3 (x.0).names) node seen (labels_of case)
   item : OfItem kinds.Syntax (x.0).names 256 (x.1).names case.item
   front : (more : List Token) → AreTokens y.2 more
       → AreTokens x.2 (spell_labels (labels_of case)
       (spell_item case.item (mark marks.Semicolon ∷ more)))
-  grows : Grows x.0 y.0
+  grows : AddsOnlyTypes x.0 y.0
   sound : IsScope x.0 → SoundCases x.0 x.1 → IsScope y.0 × SoundCases y.0 y.1
 
 case_made : (x : CasesRead) (ls : LabelsRead) (i : ItemRead) (rest : List ℕ)
-    → TakenSome (is_third (x.0).names) x.2 ls.3
+    → TakenCaseLabels (is_version_3 (x.0).names) x.2 ls.3
     → TakenItem x.0 256 (x.1).names ls.3 i → mark_at marks.Semicolon i.2 ≡ Ok rest
     → TakenCase x (i.0, with_case x.1 ls i.1, rest)
 case_made x ls i rest t u e = record {
@@ -289,7 +293,7 @@ record TakenCases (x y : CasesRead) : Type 0 where
   free : (node : Node) (seen : List Label)
       → OfCases kinds.Syntax (x.0).names node seen (x.1).names cases
   front : (more : List Token) → AreTokens y.2 more → AreTokens x.2 (spell_cases cases more)
-  grows : Grows x.0 y.0
+  grows : AddsOnlyTypes x.0 y.0
   sound : IsScope x.0 → SoundCases x.0 x.1 → IsScope y.0 × SoundCases y.0 y.1
 
 no_more : (x : CasesRead) (rest : List ℕ) → mark_if marks.CloseBrace x.2 ≡ Ok (Some rest)
@@ -352,7 +356,7 @@ pub record TakenUnionCases (s : Scope) (text : List ℕ) (x : CasesRead) : Type 
   pub cases : List UnionCase
   pub free : (node : Node) → OfCases kinds.Syntax s.names node [] [] cases
   pub front : (more : List Token) → AreTokens x.2 more → AreTokens text (spell_cases cases more)
-  pub grows : Grows s x.0
+  pub grows : AddsOnlyTypes s x.0
   pub scope : IsScope s → IsScope x.0
   pub parts : IsScope s → All (λ c. IsPart (x.0).table.types
       (length (x.0).table.types) c.part) (x.1).cases

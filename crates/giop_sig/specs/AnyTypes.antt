@@ -7,36 +7,36 @@ use Rattle.giop_cdr.specs.declared.number.Number.TheVariants.{Unsigned}
 use Rattle.giop_sig.specs.declared.numbers.TheConstants.{CHAR, BOOLEAN, SHORT, USHORT, LONG, ULONG, LONGLONG, ULONGLONG, FLOAT, DOUBLE, STRING, IOR, SEQUENCES, HEARD_KIND, KIND, HEARD_BOUND, FIXED_PARAMETERS, HEARD_TYPE_CODE, TYPE_CODE, ANY, NAMED, NAMED_DATA, TYPE_MEMBER, TYPE_MEMBERS, STRUCT, STRUCT_DATA, UNION, UNION_DATA, ENUM, ENUM_DATA, HEARD_SEQUENCE, HEARD_SEQUENCE_DATA, SEQUENCE, SEQUENCE_DATA, ARRAY, ARRAY_DATA, HEARD_ALIAS, HEARD_ALIAS_DATA, ALIAS, ALIAS_DATA, VALUE_MEMBER, VALUE_MEMBERS, VALUE, VALUE_DATA, VALUE_BOX, VALUE_BOX_DATA, WIDE_CHAR, WIDE_STRING}
 use Rattle.giop_sig.specs.Table.{Part, Case, Node, Table}
 use Rattle.giop_sig.specs.Table as nodes
-use Rattle.giop_sig.specs.Builtin.{builtin_table, builtin_types, compound_types, leaf_types, member, named_types}
+use Rattle.giop_sig.specs.Builtin.{builtin_table, builtin_types, compound_types, leaf_types, member, numbers_with_names}
 
 -- what comes after some kinds of a TypeCode: the kinds, its name, and its type
-abbrev pub follows_kinds : List ℕ → List ℕ → ℕ → Case
-follows_kinds kinds name type = record { labels = map Unsigned kinds; part = member name type }
+abbrev pub case_after_kinds : (kinds name : List ℕ) (type : ℕ) → Case
+case_after_kinds kinds name type = record { labels = map Unsigned kinds; part = member name type }
 
 -- most kinds have their parameters in an encapsulation
-abbrev pub parameters : List ℕ → ℕ → Case
-parameters kinds type = follows_kinds kinds (codes "parameters") type
+abbrev pub parameters_case : (kinds : List ℕ) (type : ℕ) → Case
+parameters_case kinds type = case_after_kinds kinds (codes "parameters") type
 
 -- the cases of a TypeCode, from the types of the parameters of a sequence and of an alias
-abbrev pub typecode_cases : ℕ → ℕ → List Case
+abbrev pub typecode_cases : (sequence_data alias_data : ℕ) → List Case
 typecode_cases sequence_data alias_data =
-    parameters (14 ∷ 31 ∷ 32 ∷ 33 ∷ 34 ∷ 35 ∷ []) NAMED_DATA
-    ∷ parameters (15 ∷ 22 ∷ []) STRUCT_DATA
-    ∷ parameters (16 ∷ []) UNION_DATA
-    ∷ parameters (17 ∷ []) ENUM_DATA
-    ∷ follows_kinds (18 ∷ 27 ∷ []) (codes "bound") ULONG
-    ∷ parameters (19 ∷ []) sequence_data
-    ∷ parameters (20 ∷ []) ARRAY_DATA
-    ∷ parameters (21 ∷ []) alias_data
-    ∷ parameters (28 ∷ []) FIXED_PARAMETERS
-    ∷ parameters (29 ∷ 36 ∷ []) VALUE_DATA
-    ∷ parameters (30 ∷ []) VALUE_BOX_DATA
-    ∷ follows_kinds (4294967295 ∷ []) (codes "offset") LONG
+    parameters_case (14 ∷ 31 ∷ 32 ∷ 33 ∷ 34 ∷ 35 ∷ []) NAMED_DATA
+    ∷ parameters_case (15 ∷ 22 ∷ []) STRUCT_DATA
+    ∷ parameters_case (16 ∷ []) UNION_DATA
+    ∷ parameters_case (17 ∷ []) ENUM_DATA
+    ∷ case_after_kinds (18 ∷ 27 ∷ []) (codes "bound") ULONG
+    ∷ parameters_case (19 ∷ []) sequence_data
+    ∷ parameters_case (20 ∷ []) ARRAY_DATA
+    ∷ parameters_case (21 ∷ []) alias_data
+    ∷ parameters_case (28 ∷ []) FIXED_PARAMETERS
+    ∷ parameters_case (29 ∷ 36 ∷ []) VALUE_DATA
+    ∷ parameters_case (30 ∷ []) VALUE_BOX_DATA
+    ∷ case_after_kinds (4294967295 ∷ []) (codes "offset") LONG
     ∷ []
 
 -- an id and a name, and then other members
-abbrev pub named_with : List Part → Node
-named_with more =
+abbrev pub id_name_and_more : (more : List Part) → Node
+id_name_and_more more =
     nodes.members (member (codes "id") STRING ∷ member (codes "name") STRING ∷ more)
 
 -- the types after the built-in ones, in the order of their numbers
@@ -67,16 +67,16 @@ any_types =
     ∷ (nodes.any HEARD_TYPE_CODE)
     ∷ (nodes.sequence None ANY)
     -- the parameters of kinds with an id, and of their members
-    ∷ (named_with [])
+    ∷ (id_name_and_more [])
     ∷ (nodes.encapsulation NAMED)
     ∷ (nodes.members (member (codes "name") STRING ∷ member (codes "type") TYPE_CODE ∷ []))
     ∷ (nodes.sequence None TYPE_MEMBER)
-    ∷ (named_with (member (codes "members") TYPE_MEMBERS ∷ []))
+    ∷ (id_name_and_more (member (codes "members") TYPE_MEMBERS ∷ []))
     ∷ (nodes.encapsulation STRUCT)
-    ∷ (named_with (member (codes "discriminator") TYPE_CODE
+    ∷ (id_name_and_more (member (codes "discriminator") TYPE_CODE
     ∷ member (codes "default_used") LONG ∷ []))
     ∷ (nodes.encapsulation UNION)
-    ∷ (named_with (member (codes "enumerators") (SEQUENCES + STRING) ∷ []))
+    ∷ (id_name_and_more (member (codes "enumerators") (SEQUENCES + STRING) ∷ []))
     ∷ (nodes.encapsulation ENUM)
     -- the parameters of kinds that hold another type
     ∷ (nodes.members (member (codes "element") HEARD_TYPE_CODE
@@ -86,18 +86,18 @@ any_types =
     ∷ (nodes.encapsulation SEQUENCE)
     ∷ (nodes.members (member (codes "element") TYPE_CODE ∷ member (codes "length") ULONG ∷ []))
     ∷ (nodes.encapsulation ARRAY)
-    ∷ (named_with (member (codes "type") HEARD_TYPE_CODE ∷ []))
+    ∷ (id_name_and_more (member (codes "type") HEARD_TYPE_CODE ∷ []))
     ∷ (nodes.encapsulation HEARD_ALIAS)
-    ∷ (named_with (member (codes "type") TYPE_CODE ∷ []))
+    ∷ (id_name_and_more (member (codes "type") TYPE_CODE ∷ []))
     ∷ (nodes.encapsulation ALIAS)
     -- the parameters of values
     ∷ (nodes.members (member (codes "name") STRING ∷ member (codes "type") TYPE_CODE
     ∷ member (codes "visibility") SHORT ∷ []))
     ∷ (nodes.sequence None VALUE_MEMBER)
-    ∷ (named_with (member (codes "modifier") SHORT ∷ member (codes "base") TYPE_CODE
+    ∷ (id_name_and_more (member (codes "modifier") SHORT ∷ member (codes "base") TYPE_CODE
     ∷ member (codes "members") VALUE_MEMBERS ∷ []))
     ∷ (nodes.encapsulation VALUE)
-    ∷ (named_with (member (codes "boxed") TYPE_CODE ∷ []))
+    ∷ (id_name_and_more (member (codes "boxed") TYPE_CODE ∷ []))
     ∷ (nodes.encapsulation VALUE_BOX)
     -- wide text
     ∷ nodes.wide_char
@@ -106,14 +106,14 @@ any_types =
     ∷ (nodes.sequence None WIDE_STRING)
     ∷ []
 
-unfoldable pub third_types : List Node
-third_types = leaf_types ++ named_types ++ compound_types ++ any_types
+unfoldable pub version_3_types : List Node
+version_3_types = leaf_types ++ numbers_with_names ++ compound_types ++ any_types
 
 -- the types that a file of a version begins with
-abbrev pub first_types : ℕ → List Node
-first_types version = cond (version == 3) third_types builtin_types
+abbrev pub first_types : (version : ℕ) → List Node
+first_types version = cond (version == 3) version_3_types builtin_types
 
 -- the table of a file of a version, without declarations
-abbrev pub first_table : ℕ → Table
+abbrev pub first_table : (version : ℕ) → Table
 first_table version =
     record builtin_table { version = version; types = first_types version }

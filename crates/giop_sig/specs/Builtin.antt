@@ -16,41 +16,43 @@ use Rattle.giop_sig.specs.Table as nodes
 
 -- The number of a type in versions 1 and 2, from its number in version 3: a named number is a ULONG
 -- there, and the types after the four named numbers have numbers that are less by 4.
-abbrev pub older : ℕ → ℕ
-older n = cond (nat_lt n CONTEXT_ID) n (cond (nat_lt n CODE_SETS) ULONG (n - 4))
+abbrev pub older_number : (version_3_number : ℕ) → ℕ
+older_number number =
+    cond (nat_lt number CONTEXT_ID) number (cond (nat_lt number CODE_SETS) ULONG (number - 4))
 
 -- The number of a type in a version, from its number in version 3. Each version other than 3 is
 -- like version 1.
-abbrev pub number_in : ℕ → ℕ → ℕ
-number_in version n = cond (version == 3) n (older n)
+abbrev pub number_in_version : (version version_3_number : ℕ) → ℕ
+number_in_version version number = cond (version == 3) number (older_number number)
 
-abbrev pub renumbered_part : (ℕ → ℕ) → Part → Part
-renumbered_part f p = record { name = p.name; type = f p.type }
+abbrev pub renumbered_part : (new_number : ℕ → ℕ) (part : Part) → Part
+renumbered_part new_number p = record { name = p.name; type = new_number p.type }
 
-abbrev pub renumbered_case : (ℕ → ℕ) → Case → Case
-renumbered_case f c = record { labels = c.labels; part = renumbered_part f c.part }
+abbrev pub renumbered_case : (new_number : ℕ → ℕ) (case : Case) → Case
+renumbered_case new_number c =
+    record { labels = c.labels; part = renumbered_part new_number c.part }
 
 -- A node with other numbers for the types of its parts. An any and a TypeCode are in version 3
 -- alone, and stay the same.
-abbrev pub renumbered : (ℕ → ℕ) → Node → Node
-renumbered f (nodes.members parts) = nodes.members (map (renumbered_part f) parts)
-renumbered f (nodes.union switch cases otherwise) =
-    nodes.union (f switch) (map (renumbered_case f) cases) otherwise
-renumbered f (nodes.sequence bound element) = nodes.sequence bound (f element)
-renumbered f (nodes.array count element) = nodes.array count (f element)
-renumbered f (nodes.encapsulation held) = nodes.encapsulation (f held)
-renumbered f (nodes.tagged special tag inner other) =
-    nodes.tagged special (renumbered_part f tag) (renumbered_part f inner)
-    (renumbered_part f other)
-renumbered f node = node
+abbrev pub renumbered : (new_number : ℕ → ℕ) (node : Node) → Node
+renumbered new_number (nodes.members parts) = nodes.members (map (renumbered_part new_number) parts)
+renumbered new_number (nodes.union switch cases otherwise) =
+    nodes.union (new_number switch) (map (renumbered_case new_number) cases) otherwise
+renumbered new_number (nodes.sequence bound element) = nodes.sequence bound (new_number element)
+renumbered new_number (nodes.array count element) = nodes.array count (new_number element)
+renumbered new_number (nodes.encapsulation held) = nodes.encapsulation (new_number held)
+renumbered new_number (nodes.tagged special tag inner other) =
+    nodes.tagged special (renumbered_part new_number tag) (renumbered_part new_number inner)
+    (renumbered_part new_number other)
+renumbered new_number node = node
 
 -- ---- parts
 
-abbrev pub member : List ℕ → ℕ → Part
+abbrev pub member : (name : List ℕ) (type : ℕ) → Part
 member name type = record { name = name; type = type }
 
 -- a case of the target, with one label
-abbrev pub labelled : ℕ → List ℕ → ℕ → Case
+abbrev pub labelled : (label : ℕ) (name : List ℕ) (type : ℕ) → Case
 labelled label name type = record { labels = Signed (pos label) ∷ []; part = member name type }
 
 -- ---- contexts, profiles and references
@@ -205,8 +207,8 @@ leaf_types =
 
 -- the numbers that have names in version 3: the id of a service context, the tag of a profile, a
 -- code set, and the minor code of a system exception
-abbrev pub named_types : List Node
-named_types = nodes.marked 3 ∷ nodes.marked 4 ∷ nodes.marked 5 ∷ nodes.marked 6 ∷ []
+abbrev pub numbers_with_names : List Node
+numbers_with_names = nodes.marked 3 ∷ nodes.marked 4 ∷ nodes.marked 5 ∷ nodes.marked 6 ∷ []
 
 -- the types of contexts, profiles, references, bodies and headers
 abbrev pub compound_types : List Node
@@ -249,7 +251,7 @@ compound_types =
 
 -- the built-in types of versions 1 and 2
 unfoldable pub builtin_types : List Node
-builtin_types = map (renumbered older) (leaf_types ++ compound_types)
+builtin_types = map (renumbered older_number) (leaf_types ++ compound_types)
 
 -- the catalogue without declarations
 abbrev pub builtin_table : Table
@@ -263,5 +265,5 @@ builtin_table = record {
   interfaces = no_interfaces;
   identities = [];
   fronts = first_fronts;
-  narrow = false;
+  forbids_wide = false;
 }

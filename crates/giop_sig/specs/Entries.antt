@@ -6,18 +6,20 @@ use Rattle.giop_sig.specs.declared.catalogue.Signature.{Signature}
 use Rattle.giop_sig.specs.Interfaces.{Interfaces}
 use Rattle.giop_sig.specs.Table.{Node, Operation, Exception, Identity, Table}
 
-abbrev pub operation_view : ArrayVec ℕ × Signature → Operation
-operation_view e = record { key = e.0.items; request = e.1.request.0; reply = e.1.reply.0 }
+abbrev pub operation_view : (entry : ArrayVec ℕ × Signature) → Operation
+operation_view entry =
+    record { key = entry.0.items; request = entry.1.request.0; reply = entry.1.reply.0 }
 
-abbrev pub exception_view : ArrayVec ℕ × TypeId → Exception
-exception_view e = record { repository = e.0.items; members = e.1.0 }
+abbrev pub exception_view : (entry : ArrayVec ℕ × TypeId) → Exception
+exception_view entry = record { repository = entry.0.items; members = entry.1.0 }
 
-abbrev pub identity_view : ArrayVec ℕ × TypeId → Identity
-identity_view e = record { repository = e.0.items; type = e.1.0 }
+abbrev pub identity_view : (entry : ArrayVec ℕ × TypeId) → Identity
+identity_view entry = record { repository = entry.0.items; type = entry.1.0 }
 
-abbrev pub table_view : ℕ → List Node → List (ArrayVec ℕ × Signature)
-    → List (ArrayVec ℕ × TypeId) → ℕ → ℕ → Interfaces → List (ArrayVec ℕ × TypeId)
-    → List (ArrayVec ℕ) → Table
+abbrev pub table_view : (version : ℕ) (types : List Node)
+    (operations : List (ArrayVec ℕ × Signature)) (exceptions : List (ArrayVec ℕ × TypeId))
+    (declared called : ℕ) (interfaces : Interfaces) (identities : List (ArrayVec ℕ × TypeId))
+    (fronts : List (ArrayVec ℕ)) → Table
 table_view version types operations exceptions declared called interfaces identities fronts =
     record {
       version = version;
@@ -29,5 +31,5 @@ table_view version types operations exceptions declared called interfaces identi
       interfaces = interfaces;
       identities = map identity_view identities;
       fronts = map (λ f. f.items) fronts;
-      narrow = false;
+      forbids_wide = false;
     }

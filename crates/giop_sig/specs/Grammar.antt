@@ -33,7 +33,7 @@ pub data TypeExpr : Type 0 where
   -- a value in octets with a byte order of their own
   EncapsulationOf : TypeExpr → TypeExpr
 
-abbrev pub base_word : Primitive → List ℕ
+abbrev pub base_word : (primitive : Primitive) → List ℕ
 base_word prims.Octet = codes "octet"
 base_word prims.Char = codes "char"
 base_word prims.Boolean = codes "boolean"
@@ -47,20 +47,20 @@ base_word prims.Float = codes "float"
 base_word prims.Double = codes "double"
 
 -- a size between two marks, if there is one
-abbrev pub spell_between : Mark → Mark → Option ℕ → List Token → List Token
+abbrev pub spell_between : (before close : Mark) (bound : Option ℕ) (more : List Token) → List Token
 spell_between before close None more = more
-spell_between before close (Some n) more = mark before ∷ number n ∷ mark close ∷ more
+spell_between before close (Some bound) more = mark before ∷ number bound ∷ mark close ∷ more
 
 -- the bound of a string: < N >
-abbrev pub spell_bound : Option ℕ → List Token → List Token
+abbrev pub spell_bound : (bound : Option ℕ) (more : List Token) → List Token
 spell_bound bound more = spell_between marks.OpenAngle marks.CloseAngle bound more
 
 -- the bound of a sequence, after the type of its elements: , N
-abbrev pub spell_most : Option ℕ → List Token → List Token
+abbrev pub spell_most : (bound : Option ℕ) (more : List Token) → List Token
 spell_most None more = more
-spell_most (Some n) more = mark marks.Comma ∷ number n ∷ more
+spell_most (Some bound) more = mark marks.Comma ∷ number bound ∷ more
 
-abbrev pub spell_type : TypeExpr → List Token → List Token
+abbrev pub spell_type : (type : TypeExpr) (more : List Token) → List Token
 spell_type (Base p) more = word (base_word p) ∷ more
 spell_type (Text bound) more = word (codes "string") ∷ spell_bound bound more
 spell_type Reference more = word (codes "Object") ∷ more
@@ -85,27 +85,27 @@ pub record Item : Type 0 where
   pub lengths : List ℕ
 
 -- the lengths of arrays, each in brackets: [ N ]
-abbrev pub spell_lengths : List ℕ → List Token → List Token
+abbrev pub spell_lengths : (numbers : List ℕ) (more : List Token) → List Token
 spell_lengths [] more = more
 spell_lengths (n ∷ ns) more =
     spell_between marks.OpenBracket marks.CloseBracket (Some n) (spell_lengths ns more)
 
-abbrev pub spell_item : Item → List Token → List Token
+abbrev pub spell_item : (item : Item) (more : List Token) → List Token
 spell_item i more = spell_type i.type (word i.name ∷ spell_lengths i.lengths more)
 
 -- members with a semicolon each, and the closing mark
-abbrev pub spell_items : List Item → List Token → List Token
+abbrev pub spell_items : (items : List Item) (more : List Token) → List Token
 spell_items [] more = mark marks.CloseBrace ∷ more
 spell_items (i ∷ is) more = spell_item i (mark marks.Semicolon ∷ spell_items is more)
 
 -- ---- the names of an enum
 
-abbrev pub spell_more_names : List (List ℕ) → List Token → List Token
+abbrev pub spell_more_names : (names : List (List ℕ)) (more : List Token) → List Token
 spell_more_names [] more = mark marks.CloseBrace ∷ more
 spell_more_names (n ∷ ns) more = mark marks.Comma ∷ word n ∷ spell_more_names ns more
 
 -- names with commas between them, and the closing mark
-abbrev pub spell_names : List (List ℕ) → List Token → List Token
+abbrev pub spell_names : (names : List (List ℕ)) (more : List Token) → List Token
 spell_names [] more = mark marks.CloseBrace ∷ more
 spell_names (n ∷ ns) more = word n ∷ spell_more_names ns more
 
@@ -118,11 +118,11 @@ pub data Value : Type 0 where
   Truth : Bool → Value
   Enumerator : List ℕ → Value
 
-abbrev pub truth_word : Bool → List ℕ
+abbrev pub truth_word : (value : Bool) → List ℕ
 truth_word true = codes "true"
 truth_word false = codes "false"
 
-abbrev pub spell_value : Value → List Token → List Token
+abbrev pub spell_value : (value : Value) (more : List Token) → List Token
 spell_value (Plain n) more = number n ∷ more
 spell_value (Below n) more = negative n ∷ more
 spell_value (Truth b) more = word (truth_word b) ∷ more
@@ -132,11 +132,11 @@ pub data Label : Type 0 where
   Default : Label
   Of : Value → Label
 
-abbrev pub spell_label : Label → List Token → List Token
+abbrev pub spell_label : (label : Label) (more : List Token) → List Token
 spell_label Default more = word (codes "default") ∷ mark marks.Colon ∷ more
 spell_label (Of v) more = word (codes "case") ∷ spell_value v (mark marks.Colon ∷ more)
 
-abbrev pub spell_labels : List Label → List Token → List Token
+abbrev pub spell_labels : (labels : List Label) (more : List Token) → List Token
 spell_labels [] more = more
 spell_labels (l ∷ ls) more = spell_label l (spell_labels ls more)
 
@@ -146,7 +146,7 @@ pub record UnionCase : Type 0 where
   pub others : List Label
   pub item : Item
 
-abbrev pub spell_cases : List UnionCase → List Token → List Token
+abbrev pub spell_cases : (cases : List UnionCase) (more : List Token) → List Token
 spell_cases [] more = mark marks.CloseBrace ∷ more
 spell_cases (c ∷ cs) more =
     spell_label c.label (spell_labels c.others
@@ -154,7 +154,7 @@ spell_cases (c ∷ cs) more =
 
 -- ---- the parameters of an operation
 
-abbrev pub direction_word : Direction → List ℕ
+abbrev pub direction_word : (direction : Direction) → List ℕ
 direction_word directions.In = codes "in"
 direction_word directions.Out = codes "out"
 direction_word directions.Inout = codes "inout"
@@ -163,32 +163,32 @@ pub record Param : Type 0 where
   pub direction : Direction
   pub item : Item
 
-abbrev pub spell_param : Param → List Token → List Token
+abbrev pub spell_param : (parameter : Param) (more : List Token) → List Token
 spell_param p more = word (direction_word p.direction) ∷ spell_item p.item more
 
-abbrev pub spell_more_params : List Param → List Token → List Token
+abbrev pub spell_more_params : (params : List Param) (more : List Token) → List Token
 spell_more_params [] more = mark marks.CloseParenthesis ∷ more
 spell_more_params (p ∷ ps) more = mark marks.Comma ∷ spell_param p (spell_more_params ps more)
 
 -- parameters with commas between them, and the closing mark
-abbrev pub spell_params : List Param → List Token → List Token
+abbrev pub spell_params : (params : List Param) (more : List Token) → List Token
 spell_params [] more = mark marks.CloseParenthesis ∷ more
 spell_params (p ∷ ps) more = spell_param p (spell_more_params ps more)
 
 -- what an operation returns, perhaps nothing
-abbrev pub spell_return : Option TypeExpr → List Token → List Token
+abbrev pub spell_return : (type : Option TypeExpr) (more : List Token) → List Token
 spell_return None more = word (codes "void") ∷ more
 spell_return (Some e) more = spell_type e more
 
 -- ---- the interfaces of an operation
 
-abbrev pub spell_more_interfaces : List (List ℕ) → List Token → List Token
+abbrev pub spell_more_interfaces : (ids : List (List ℕ)) (more : List Token) → List Token
 spell_more_interfaces [] more = more
 spell_more_interfaces (id ∷ ids) more =
     mark marks.Comma ∷ repository id ∷ spell_more_interfaces ids more
 
 -- nothing, or a word and the repository ids of interfaces with commas between them
-abbrev pub spell_interfaces : List (List ℕ) → List Token → List Token
+abbrev pub spell_interfaces : (ids : List (List ℕ)) (more : List Token) → List Token
 spell_interfaces [] more = more
 spell_interfaces (id ∷ ids) more =
     word (codes "of") ∷ repository id ∷ spell_more_interfaces ids more
@@ -196,12 +196,12 @@ spell_interfaces (id ∷ ids) more =
 -- ---- declarations
 
 -- the repository id of a type, if it has one
-abbrev pub spell_identity : Option (List ℕ) → List Token → List Token
+abbrev pub spell_identity : (id : Option (List ℕ)) (more : List Token) → List Token
 spell_identity None more = more
 spell_identity (Some id) more = repository id ∷ more
 
 -- the first word of a struct or union
-abbrev pub type_word : TypeWord → List ℕ
+abbrev pub type_word : (first : TypeWord) → List ℕ
 type_word type_words.Struct = codes "struct"
 type_word type_words.Union = codes "union"
 
@@ -220,7 +220,7 @@ pub data Declaration : Type 0 where
   -- an object key or the front of object keys, and its interface
   KeyOf : List ℕ → List ℕ → Declaration
 
-abbrev pub spell : Declaration → List Token → List Token
+abbrev pub spell : (declaration : Declaration) (more : List Token) → List Token
 spell (Enumeration n id names) more =
     word (codes "enum") ∷ word n ∷ spell_identity id (mark marks.OpenBrace
     ∷ spell_names names (mark marks.Semicolon ∷ more))
@@ -244,7 +244,7 @@ spell (KeyOf key id) more =
     word (codes "key") ∷ repository key ∷ word (codes "of") ∷ repository id
     ∷ mark marks.Semicolon ∷ more
 
-abbrev pub spell_all : List Declaration → List Token
+abbrev pub spell_all : (declarations : List Declaration) → List Token
 spell_all [] = []
 spell_all (d ∷ ds) = spell d (spell_all ds)
 
@@ -255,11 +255,11 @@ pub record SignatureFile : Type 0 where
   pub declarations : List Declaration
 
 -- whether a version of the format is at most `latest`
-abbrev pub is_version : ℕ → ℕ → Bool
-is_version latest n = nat_le 1 n && nat_le n latest
+abbrev pub is_version : (latest version : ℕ) → Bool
+is_version latest version = nat_le 1 version && nat_le version latest
 
 -- the whole file, its version first
-abbrev pub spell_file : SignatureFile → List Token
+abbrev pub spell_file : (file : SignatureFile) → List Token
 spell_file file =
     word (codes "signatures") ∷ number file.version ∷ mark marks.Semicolon
     ∷ spell_all file.declarations

@@ -10,8 +10,8 @@ use Rattle.giop_sig.specs.declared.types.Fixed.TheVariants as fixeds
 use Rattle.giop_sig.specs.Types.{Plain, Ty, Single, Struct}
 use Rattle.giop_sig.specs.Table.{Node, Operation, Exception, Identity, Table, node_in, no_operation, no_exception, no_identity}
 use Rattle.giop_sig.specs.Table as nodes
-use Rattle.giop_sig.specs.Trees.{AreTypes, AreWide, tree}
-use Rattle.giop_sig.specs.Builtin.{number_in}
+use Rattle.giop_sig.specs.Trees.{AreTypes, AllHaveParameterTypes, tree}
+use Rattle.giop_sig.specs.Builtin.{number_in_version}
 use Rattle.giop_sig.specs.AnyTypes.{first_types, first_table}
 
 -- the numbers in version 3 of the header types, for each message type in 1.0, 1.1 and 1.2
@@ -30,48 +30,48 @@ header_rows =
     ∷ (None ∷ None ∷ Some ID_ALONE ∷ [])
     ∷ []
 
-abbrev pub cell_of : Option (Option ℕ) → Option ℕ
-cell_of None = None
-cell_of (Some cell) = cell
+abbrev pub flattened_cell : (cell : Option (Option ℕ)) → Option ℕ
+flattened_cell None = None
+flattened_cell (Some cell) = cell
 
-abbrev pub cell_in : Option (List (Option ℕ)) → ℕ → Option ℕ
-cell_in None minor = None
-cell_in (Some row) minor = cell_of (slice_get row minor)
+abbrev pub cell_of_minor : (row : Option (List (Option ℕ))) (minor : ℕ) → Option ℕ
+cell_of_minor None minor = None
+cell_of_minor (Some row) minor = flattened_cell (slice_get row minor)
 
 -- the number of the header type for a minor version of GIOP and a message type, in a version of
 -- signature files
-abbrev pub header_number : ℕ → ℕ → ℕ → Option ℕ
-header_number version minor kind =
-    option_map (number_in version) (cell_in (slice_get header_rows kind) minor)
+abbrev pub header_type_number : (file_version giop_minor message_type : ℕ) → Option ℕ
+header_type_number version minor kind =
+    option_map (number_in_version version) (cell_of_minor (slice_get header_rows kind) minor)
 
 -- the header type for a minor version of GIOP and a message type
-abbrev pub header_type : ℕ → ℕ → ℕ → Option Ty
+abbrev pub header_type : (file_version giop_minor message_type : ℕ) → Option Ty
 header_type version minor kind =
-    option_map (tree (first_table version)) (header_number version minor kind)
+    option_map (tree (first_table version)) (header_type_number version minor kind)
 
-abbrev pub third_fixed : Fixed → ℕ
-third_fixed fixeds.ExceptionId = STRING
-third_fixed fixeds.SystemException = SYSTEM_EXCEPTION
-third_fixed fixeds.Forward = IOR
-third_fixed fixeds.Addressing = SHORT
+abbrev pub fixed_type_in_version_3 : (fixed : Fixed) → ℕ
+fixed_type_in_version_3 fixeds.ExceptionId = STRING
+fixed_type_in_version_3 fixeds.SystemException = SYSTEM_EXCEPTION
+fixed_type_in_version_3 fixeds.Forward = IOR
+fixed_type_in_version_3 fixeds.Addressing = SHORT
 
 -- the number of the type of a body that isn't declared, in a version of signature files
-abbrev pub fixed_number : ℕ → Fixed → ℕ
-fixed_number version fixed = number_in version (third_fixed fixed)
+abbrev pub fixed_type_number : (version : ℕ) (fixed : Fixed) → ℕ
+fixed_type_number version fixed = number_in_version version (fixed_type_in_version_3 fixed)
 
-abbrev pub fixed_type : ℕ → Fixed → Ty
-fixed_type version fixed = tree (first_table version) (fixed_number version fixed)
+abbrev pub fixed_type : (version : ℕ) (fixed : Fixed) → Ty
+fixed_type version fixed = tree (first_table version) (fixed_type_number version fixed)
 
 -- a header that begins with the request id
-abbrev pub BeginsWithId : Ty → Type 0
+abbrev pub BeginsWithId : (type : Ty) → Type 0
 BeginsWithId T =
     (count : ℕ) × (names : ℕ → List ℕ) × (parts : ℕ → Ty) × (T ≡ Struct (suc count) names parts)
     × (names 0 ≡ codes "request_id") × (parts 0 ≡ Single (Plain ULong))
 
 -- the messages whose request id is read before the type is: all messages of 1.2 that have a header,
 -- and each cancel request
-abbrev pub IdStandsFirst : ℕ → ℕ → Type 0
-IdStandsFirst minor kind = (minor ≡ 2) ⊎ (kind ≡ 2)
+abbrev pub RequestIdStandsFirst : (giop_minor message_type : ℕ) → Type 0
+RequestIdStandsFirst minor kind = (minor ≡ 2) ⊎ (kind ≡ 2)
 
 -- ---- a catalogue's table
 
@@ -92,36 +92,38 @@ pub record IsIdentity (types : List Node) (e : Identity) : Type 0 where
   pub type : e.type < length types
 
 -- a node that a file of version 1 or 2 may have
-abbrev pub IsPlain : Node → Type 0
-IsPlain nodes.wide_text = ⊥
-IsPlain nodes.wide_char = ⊥
-IsPlain (nodes.marked mark) = ⊥
-IsPlain (nodes.any code) = ⊥
-IsPlain (nodes.announced index) = ⊥
-IsPlain (nodes.recursive bound element) = ⊥
-IsPlain (nodes.typecode wide kind cases) = ⊥
-IsPlain node = Unit {0}
+abbrev pub IsBeforeVersion3 : (node : Node) → Type 0
+IsBeforeVersion3 nodes.wide_text = ⊥
+IsBeforeVersion3 nodes.wide_char = ⊥
+IsBeforeVersion3 (nodes.marked mark) = ⊥
+IsBeforeVersion3 (nodes.any code) = ⊥
+IsBeforeVersion3 (nodes.announced index) = ⊥
+IsBeforeVersion3 (nodes.recursive bound element) = ⊥
+IsBeforeVersion3 (nodes.typecode wide kind cases) = ⊥
+IsBeforeVersion3 node = Unit {0}
 
 -- a node that a declaration in a file of a version may add
-abbrev pub IsAddable : ℕ → Node → Type 0
+abbrev pub IsAddable : (version : ℕ) (node : Node) → Type 0
 IsAddable version (nodes.announced index) = version ≡ 3
 IsAddable version (nodes.recursive bound element) = version ≡ 3
-IsAddable version node = IsPlain node
+IsAddable version node = IsBeforeVersion3 node
 
-abbrev pub ArePlain : List Node → Type 0
-ArePlain types = (i : ℕ) → i < length types → IsPlain (node_in types i)
+abbrev pub AreBeforeVersion3 : (types : List Node) → Type 0
+AreBeforeVersion3 types = (i : ℕ) → i < length types → IsBeforeVersion3 (node_in types i)
 
 -- no two elements have the same name
-abbrev pub AreDistinct : {X : Type 0} → (X → List ℕ) → X → List X → Type 0
-AreDistinct name_in d xs =
-    (i j : ℕ) → i < length xs → j < length xs
-    → name_in (slice_index_or xs i d) ≡ name_in (slice_index_or xs j d) → i ≡ j
+abbrev pub AreDistinct : {X : Type 0} (name_in : X → List ℕ) (otherwise : X) (list : List X) →
+    Type 0
+AreDistinct name_in otherwise list =
+    (i j : ℕ) → i < length list → j < length list
+    → name_in (slice_index_or list i otherwise) ≡ name_in (slice_index_or list j otherwise)
+    → i ≡ j
 
 -- The types and the fronts of repository ids from which the type of an any's value is known. Only
 -- files of version 3 have wide text, anys, TypeCodes and their parts, and types that are announced.
 pub record KnowsAnys (version : ℕ) (types : List Node) (fronts : List (List ℕ)) : Type 0 where
-  pub plain : (version ≡ 3 → ⊥) → ArePlain types
-  pub wide : AreWide types
+  pub plain : (version ≡ 3 → ⊥) → AreBeforeVersion3 types
+  pub wide : AllHaveParameterTypes types
   pub short : All (λ front. length front ≤ 129) fronts
   pub few : length fronts ≤ 65536
 
@@ -143,5 +145,5 @@ pub record TableOf (Types : List Node → Type 0) (t : Table) : Type 0 where
   pub anys : KnowsAnys t.version t.types t.fronts
 
 -- the table of a catalogue
-abbrev pub IsTable : Table → Type 0
+abbrev pub IsTable : (table : Table) → Type 0
 IsTable t = TableOf AreTypes t

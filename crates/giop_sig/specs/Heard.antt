@@ -6,7 +6,7 @@ use Rattle.std.specs.List.{list_any}
 use Rattle.std.specs.Str.{bytes_eq}
 use Rattle.giop_sig.specs.declared.numbers.TheConstants.{OCTET, CHAR, BOOLEAN, SHORT, USHORT, LONG, ULONG, LONGLONG, ULONGLONG, FLOAT, DOUBLE, STRING, OCTETS, IOR, ANY, TYPE_CODE, SEQUENCES, REFERENCES, WIDE_CHAR, WIDE_STRING}
 use Rattle.giop_sig.specs.declared.types.TypeId.{TypeId}
-use Rattle.giop_sig.specs.Types.{Sign, MarkedNumber, Counted, Spelt, Told, Awaits, Offers, Is, Empty, Unknown, Sequel, Then, Ends, Stops}
+use Rattle.giop_sig.specs.Types.{Sign, MarkedNumber, Counted, Spelt, InferredType, Awaits, Offers, Is, Empty, Unknown, Sequel, Then, Ends, Stops}
 use Rattle.giop_sig.specs.Table.{Node, Table, node_at, identified_in}
 use Rattle.giop_sig.specs.Table as nodes
 
@@ -15,93 +15,99 @@ use Rattle.giop_sig.specs.Table as nodes
 -- What each kind tells, from 0 on. A struct, a union and an enum are known by their repository ids,
 -- of which no octet has come yet (the first three fronts). A sequence and an alias are known by the
 -- type in them.
-abbrev pub told_kinds : List Told
-told_kinds =
+abbrev pub inferred_by_kinds : List InferredType
+inferred_by_kinds =
     Empty ∷ Empty ∷ Is SHORT ∷ Is LONG ∷ Is USHORT ∷ Is ULONG ∷ Is FLOAT ∷ Is DOUBLE ∷ Is BOOLEAN
     ∷ Is CHAR ∷ Is OCTET ∷ Is ANY ∷ Is TYPE_CODE ∷ Is OCTETS ∷ Is IOR ∷ Awaits 0
     ∷ Awaits 1 ∷ Awaits 2 ∷ Is STRING ∷ Unknown ∷ Unknown ∷ Unknown ∷ Unknown
     ∷ Is LONGLONG ∷ Is ULONGLONG ∷ Unknown ∷ Is WIDE_CHAR ∷ Is WIDE_STRING ∷ []
 
-abbrev pub told_by : ℕ → Told
-told_by kind = slice_index_or told_kinds kind Unknown
+abbrev pub inferred_by_kind : (kind : ℕ) → InferredType
+inferred_by_kind kind = slice_index_or inferred_by_kinds kind Unknown
 
 -- ---- sequences
 
-abbrev pub is_sequence_of : ℕ → Node → Bool
-is_sequence_of i (nodes.sequence None element) = element == i
-is_sequence_of i node = false
+abbrev pub is_sequence_of : (number : ℕ) (node : Node) → Bool
+is_sequence_of number (nodes.sequence None element) = element == number
+is_sequence_of number node = false
 
 -- for a type that has a repository id, or for wide text: the next type, if it is the sequence of
 -- that type
-abbrev pub next_sequence : Table → ℕ → Told
-next_sequence t i = cond (is_sequence_of i (node_at t (i + 1))) (Is (i + 1)) Unknown
+abbrev pub next_sequence : (table : Table) (number : ℕ) → InferredType
+next_sequence t number =
+    cond (is_sequence_of number (node_at t (number + 1))) (Is (number + 1)) Unknown
 
 -- what is told by a sequence of a type, whatever its bound
-abbrev pub sequence_told : Table → ℕ → Told
-sequence_told t i =
-    cond (i == OCTET) (Is OCTETS) (cond (nat_le i STRING) (Is (SEQUENCES + i))
-    (cond (i == IOR) (Is REFERENCES) (next_sequence t i)))
+abbrev pub inferred_sequence : (table : Table) (number : ℕ) → InferredType
+inferred_sequence t number =
+    cond (number == OCTET) (Is OCTETS) (cond (nat_le number STRING) (Is (SEQUENCES + number))
+    (cond (number == IOR) (Is REFERENCES) (next_sequence t number)))
 
 -- ---- ids and counts
 
 -- the kind of a type, if it is a struct, a union or an enum
-abbrev pub kind_of : Node → ℕ
-kind_of (nodes.union switch cases otherwise) = 16
-kind_of (nodes.enumeration names) = 17
-kind_of node = 15
+abbrev pub typecode_kind : (node : Node) → ℕ
+typecode_kind (nodes.union switch cases otherwise) = 16
+typecode_kind (nodes.enumeration names) = 17
+typecode_kind node = 15
 
 -- what a type with the right repository id and kind tells: a struct or an enum is known after its
 -- count, and a union at once
-abbrev pub of_kind : ℕ → ℕ → Node → Told
-of_kind kind i (nodes.members parts) = cond (kind == 15) (Offers i) Unknown
-of_kind kind i (nodes.union switch cases otherwise) = cond (kind == 16) (Is i) Unknown
-of_kind kind i (nodes.enumeration names) = cond (kind == 17) (Offers i) Unknown
-of_kind kind i node = Unknown
+abbrev pub inferred_by_id_kind : (kind number : ℕ) (node : Node) → InferredType
+inferred_by_id_kind kind number (nodes.members parts) = cond (kind == 15) (Offers number) Unknown
+inferred_by_id_kind kind number (nodes.union switch cases otherwise) =
+    cond (kind == 16) (Is number) Unknown
+inferred_by_id_kind kind number (nodes.enumeration names) = cond (kind == 17)
+    (Offers number) Unknown
+inferred_by_id_kind kind number node = Unknown
 
-abbrev pub found_as : Table → ℕ → Option TypeId → Told
-found_as t kind None = Unknown
-found_as t kind (Some i) = of_kind kind i.0 (node_at t i.0)
+abbrev pub inferred_if_found : (table : Table) (kind : ℕ) (type : Option TypeId) → InferredType
+inferred_if_found t kind None = Unknown
+inferred_if_found t kind (Some i) = inferred_by_id_kind kind i.0 (node_at t i.0)
 
 -- what is told by a whole repository id, after the octet of its kind
-abbrev pub identity_told : Table → List ℕ → Told
-identity_told t [] = Unknown
-identity_told t (kind ∷ id) = found_as t kind (identified_in t id)
+abbrev pub inferred_by_id : (table : Table) (octets : List ℕ) → InferredType
+inferred_by_id t [] = Unknown
+inferred_by_id t (kind ∷ id) = inferred_if_found t kind (identified_in t id)
 
 -- the fronts with one more, if it is new
-abbrev pub with_front : List (List ℕ) → List ℕ → List (List ℕ)
-with_front fs front = cond (list_any (bytes_eq front) fs) fs (fs ++ front ∷ [])
+abbrev pub with_front : (fronts : List (List ℕ)) (front : List ℕ) → List (List ℕ)
+with_front fronts front = cond (list_any (bytes_eq front) fronts) fronts (fronts ++ front ∷ [])
 
--- the fronts with that of the first n octets of an id, if the id has more
-abbrev pub with_front_of : ℕ → List ℕ → ℕ → List (List ℕ) → List (List ℕ)
-with_front_of kind id n fs = cond (nat_lt n (length id)) (with_front fs (kind ∷ take n id)) fs
+-- the fronts with that of the first `count` octets of an id, if the id has more
+abbrev pub with_front_of_length : (kind : ℕ) (id : List ℕ) (count : ℕ) (fronts : List (List ℕ)) →
+    List (List ℕ)
+with_front_of_length kind id count fronts =
+    cond (nat_lt count (length id)) (with_front fronts (kind ∷ take count id)) fronts
 
 -- the fronts with those of an id of a type of this kind: a string comes in pieces of 32 octets
-abbrev pub with_fronts : ℕ → List ℕ → List (List ℕ) → List (List ℕ)
-with_fronts kind id fs =
-    with_front_of kind id 96 (with_front_of kind id 64 (with_front_of kind id 32 fs))
+abbrev pub with_fronts : (kind : ℕ) (id : List ℕ) (fronts : List (List ℕ)) → List (List ℕ)
+with_fronts kind id fronts =
+    with_front_of_length kind id 96 (with_front_of_length kind id 64
+    (with_front_of_length kind id 32 fronts))
 
 -- the front with this number
-abbrev pub front_at : Table → ℕ → List ℕ
-front_at t n = slice_index_or t.fronts n []
+abbrev pub front_at : (table : Table) (number : ℕ) → List ℕ
+front_at t number = slice_index_or t.fronts number []
 
-abbrev pub front_told : Option ℕ → Told
-front_told None = Unknown
-front_told (Some n) = Awaits n
+abbrev pub awaited_front : (number : Option ℕ) → InferredType
+awaited_front None = Unknown
+awaited_front (Some number) = Awaits number
 
 -- what is told by the octets of a repository id that have come, after the octet of its kind; and
 -- whether more come
-abbrev pub id_told : Table → List ℕ → Bool → Told
-id_told t octets true = front_told (position (bytes_eq octets) t.fronts)
-id_told t octets false = identity_told t octets
+abbrev pub inferred_by_id_part : (table : Table) (octets : List ℕ) (more : Bool) → InferredType
+inferred_by_id_part t octets true = awaited_front (position (bytes_eq octets) t.fronts)
+inferred_by_id_part t octets false = inferred_by_id t octets
 
--- whether a struct has n members, or an enum n names
-abbrev pub has_count : ℕ → Node → Bool
-has_count n (nodes.members parts) = length parts == n
-has_count n (nodes.enumeration names) = length names == n
-has_count n node = false
+-- whether a struct has `count` members, or an enum `count` names
+abbrev pub has_count : (count : ℕ) (node : Node) → Bool
+has_count count (nodes.members parts) = length parts == count
+has_count count (nodes.enumeration names) = length names == count
+has_count count node = false
 
-abbrev pub count_told : Table → ℕ → ℕ → Told
-count_told t i n = cond (has_count n (node_at t i)) (Is i) Unknown
+abbrev pub inferred_by_count : (table : Table) (number count : ℕ) → InferredType
+inferred_by_count t number count = cond (has_count count (node_at t number)) (Is number) Unknown
 
 -- the fronts before the first octet of an id: of a struct, a union and an enum
 abbrev pub first_fronts : List (List ℕ)
@@ -110,35 +116,38 @@ first_fronts = (15 ∷ []) ∷ (16 ∷ []) ∷ (17 ∷ []) ∷ []
 -- ---- what is told, and what follows
 
 -- after the bound of a sequence
-abbrev pub bound_told : Table → Told → Told
-bound_told t (Is i) = sequence_told t i
-bound_told t told = Unknown
+abbrev pub inferred_after_bound : (table : Table) (inferred : InferredType) → InferredType
+inferred_after_bound t (Is i) = inferred_sequence t i
+inferred_after_bound t told = Unknown
 
 -- after something that tells nothing: if an id is awaited, only its pieces may come
-abbrev pub unless_awaited : Told → Told
-unless_awaited (Awaits n) = Unknown
-unless_awaited told = told
+abbrev pub inferred_unless_awaited : (inferred : InferredType) → InferredType
+inferred_unless_awaited (Awaits n) = Unknown
+inferred_unless_awaited told = told
 
 -- after a count
-abbrev pub counted : Table → Told → ℕ → Told
-counted t (Offers i) n = count_told t i n
-counted t told n = unless_awaited told
+abbrev pub inferred_after_count : (table : Table) (inferred : InferredType) (count : ℕ) →
+    InferredType
+inferred_after_count t (Offers i) count = inferred_by_count t i count
+inferred_after_count t told count = inferred_unless_awaited told
 
 -- after a piece of a string
-abbrev pub spelt : Table → Told → List ℕ → Bool → Told
-spelt t (Awaits n) octets more = id_told t (front_at t n ++ octets) more
-spelt t told octets more = told
+abbrev pub inferred_after_piece : (table : Table) (inferred : InferredType) (octets : List ℕ)
+    (more : Bool)
+    → InferredType
+inferred_after_piece t (Awaits n) octets more = inferred_by_id_part t (front_at t n ++ octets) more
+inferred_after_piece t told octets more = told
 
 -- what has been told after a sign; mark 0 is that of a kind, and mark 1 that of a sequence's bound
-abbrev pub hears : Table → Told → Sign → Told
-hears t told (MarkedNumber zero n) = told_by n
-hears t told (MarkedNumber (suc zero) n) = bound_told t told
-hears t told (MarkedNumber mark n) = unless_awaited told
-hears t told (Counted n) = counted t told n
-hears t told (Spelt octets more) = spelt t told octets more
+abbrev pub inferred_after : (table : Table) (inferred : InferredType) (sign : Sign) → InferredType
+inferred_after t told (MarkedNumber zero n) = inferred_by_kind n
+inferred_after t told (MarkedNumber (suc zero) n) = inferred_after_bound t told
+inferred_after t told (MarkedNumber mark n) = inferred_unless_awaited told
+inferred_after t told (Counted n) = inferred_after_count t told n
+inferred_after t told (Spelt octets more) = inferred_after_piece t told octets more
 
 -- what was told selects a type, if it can follow
-abbrev pub selects : (ℕ → Bool) → Told → Sequel
+abbrev pub selects : (can_follow : ℕ → Bool) (inferred : InferredType) → Sequel
 selects can_follow (Is i) = cond (can_follow i) (Then i) Stops
 selects can_follow Empty = Ends
 selects can_follow told = Stops

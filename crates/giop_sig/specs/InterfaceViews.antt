@@ -5,10 +5,11 @@ use Rattle.arrayvec.specs.ArrayVec.{ArrayVec}
 use Rattle.giop_sig.specs.declared.types.InterfaceId.{InterfaceId}
 use Rattle.giop_sig.specs.Interfaces.{Interfaces, front_text, of_text}
 
-abbrev pub key_view : ArrayVec ℕ × InterfaceId → List ℕ × ℕ
-key_view e = (e.0.items, e.1.0)
+abbrev pub key_view : (entry : ArrayVec ℕ × InterfaceId) → List ℕ × ℕ
+key_view entry = (entry.0.items, entry.1.0)
 
-abbrev pub interfaces_view : List (ArrayVec ℕ) → List (ArrayVec ℕ × InterfaceId) → Interfaces
+abbrev pub interfaces_view : (names : List (ArrayVec ℕ)) (keys : List (ArrayVec ℕ × InterfaceId)) →
+    Interfaces
 interfaces_view names keys = record { names = map (λ n. n.items) names; keys = map key_view keys }
 
 -- a KEY of one of the interfaces
@@ -17,7 +18,7 @@ pub record IsKeyOf (interfaces : ℕ) (k : List ℕ × ℕ) : Type 0 where
   pub known : k.1 < interfaces
 
 -- the names and KEYs are short, and there are only fronts of sizes that are marked
-pub record AreKept (marked : List Bool) (i : Interfaces) : Type 0 where
+pub record AreInterfacesKept (marked : List Bool) (i : Interfaces) : Type 0 where
   pub short : All (λ name. length name ≤ 128) i.names
   pub few : length i.names ≤ 1024
   pub keys : AllByRecursion (IsKeyOf (length i.names)) i.keys

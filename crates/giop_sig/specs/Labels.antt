@@ -7,13 +7,13 @@ use Rattle.giop_sig.specs.Grammar.{Value, Plain, Below, Truth, Enumerator}
 use Rattle.giop_sig.specs.UnionCases.{case_view}
 use Rattle.giop_sig.specs.UnionReading.{Cases}
 
-abbrev pub value_view : code.LabelValue → Value
+abbrev pub value_view : (value : code.LabelValue) → Value
 value_view (seen.Plain n) = Plain n
 value_view (seen.Below n) = Below n
 value_view (seen.Truth b) = Truth b
 value_view (seen.Enumerator w) = Enumerator w.now
 
-abbrev pub cases_view : kept.Cases → Cases
+abbrev pub cases_view : (cases : kept.Cases) → Cases
 cases_view cs =
     record {
       labels = cs.labels.items;

@@ -11,17 +11,17 @@ use Rattle.giop_sig.specs.declared.numbers.TheConstants.{NAMED}
 use Rattle.giop_sig.specs.Table.{Node, Part, Case}
 use Rattle.giop_sig.specs.Table as nodes
 
-abbrev pub literal_part : Named → Part
+abbrev pub literal_part : (member : Named) → Part
 literal_part p = record { name = p.0.now; type = p.1 }
 
-abbrev pub literal_case : Labelled → Case
+abbrev pub literal_case : (labelled : Labelled) → Case
 literal_case c = record { labels = Signed c.0 ∷ []; part = record { name = c.1.now; type = c.2 } }
 
-abbrev pub literal_parameters : Parameters → Case
+abbrev pub literal_parameters : (parameters : Parameters) → Case
 literal_parameters p =
     record { labels = map Unsigned p.0.now; part = record { name = p.1.now; type = p.2 } }
 
-abbrev pub literal_node : Literal → Node
+abbrev pub literal_node : (literal : Literal) → Node
 literal_node (literals.Prim p) = nodes.prim p
 literal_node literals.Text = nodes.text None
 literal_node literals.Octets = nodes.octets None

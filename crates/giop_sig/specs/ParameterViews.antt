@@ -2,12 +2,12 @@
 -- (state).
 use Rattle.std.specs.Prelude.{◌≡◌, map}
 use Rattle.giop_sig.specs.declared.read_calls.Parameters.{Parameters}
-use Rattle.giop_sig.specs.declared.read_calls.Called as code
+use Rattle.giop_sig.specs.declared.read_calls.OperationStructs as code
 use Rattle.giop_sig.specs.UnionCases.{part_view}
 use Rattle.giop_sig.specs.Scopes.{Scope}
-use Rattle.giop_sig.specs.CallReading.{ParameterLists, Called}
+use Rattle.giop_sig.specs.CallReading.{ParameterLists, OperationStructs}
 
-abbrev pub parameter_lists_view : Parameters → ParameterLists
+abbrev pub parameter_lists_view : (parameters : Parameters) → ParameterLists
 parameter_lists_view w =
     record {
       seen = map (λ n. n.now) w.seen.items;
@@ -15,8 +15,8 @@ parameter_lists_view w =
       reply = map part_view w.reply.items;
     }
 
-abbrev pub called_view : code.Called → Called
-called_view c = record {
+abbrev pub operation_structs_view : (operation : code.OperationStructs) → OperationStructs
+operation_structs_view c = record {
   name = c.name.now;
   request = c.signature.request.0;
   reply = c.signature.reply.0;

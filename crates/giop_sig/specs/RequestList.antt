@@ -15,7 +15,7 @@ use Rattle.giop_sig.specs.declared.fault.ListFaultKind.TheVariants.{Syntax, Limi
 -- ---- the text
 
 -- the lines of a text, each ended by LF; the last LF may be missing
-abbrev pub lines : List ℕ → List (List ℕ)
+abbrev pub lines : (text : List ℕ) → List (List ℕ)
 lines [] = []
 lines (b ∷ bs) = if b == 10 then [] ∷ lines bs else onto_first b (lines bs)
 
@@ -30,8 +30,8 @@ pub record Entry : Type 0 where
   pub asked : Asked
 
 -- a printable octet of ASCII other than a space
-abbrev pub IsNameOctet : ℕ → Type 0
-IsNameOctet b = (33 ≤ b) × (b ≤ 126)
+abbrev pub IsNameOctet : (octet : ℕ) → Type 0
+IsNameOctet octet = (33 ≤ octet) × (octet ≤ 126)
 
 -- a name is 1 to 128 such octets
 pub record IsName (name : List ℕ) : Type 0 where
@@ -40,124 +40,130 @@ pub record IsName (name : List ℕ) : Type 0 where
   pub octets : All IsNameOctet name
 
 -- whether a line may have a third word: it may if the catalogue has version 3
-abbrev pub third_in : Table → Bool
-third_in C = C.version == 3
+abbrev pub allows_third_word : (table : Table) → Bool
+allows_third_word C = C.version == 3
 
 -- what an entry may ask for; a repository id is spelled like a name
-pub record IsAsked (third : Bool) (a : Asked) : Type 0 where
+pub record IsAsked (third_word : Bool) (a : Asked) : Type 0 where
   pub name : IsName a.name
-  pub interface : IfSome a.interface (λ id. IsTrue third × IsName id)
+  pub interface : IfSome a.interface (λ id. IsTrue third_word × IsName id)
 
 -- an entry that a line may be
-pub record IsEntry (third : Bool) (e : Entry) : Type 0 where
+pub record IsEntry (third_word : Bool) (e : Entry) : Type 0 where
   pub id : e.id < 2 ^ 32
-  pub asked : IsAsked third e.asked
+  pub asked : IsAsked third_word e.asked
 
 -- a name, or a name, a space and a repository id
-abbrev pub words : List ℕ → Option (List ℕ) → List ℕ
+abbrev pub words : (name : List ℕ) (id : Option (List ℕ)) → List ℕ
 words name None = name
 words name (Some id) = name ++ 32 ∷ id
 
 -- the line of an entry: its id in decimal without leading zeros, a space, and its words
-abbrev pub line_of : Entry → List ℕ
+abbrev pub line_of : (entry : Entry) → List ℕ
 line_of e = decimal e.id ++ 32 ∷ words e.asked.name e.asked.interface
 
 -- the line is that of an entry
-abbrev pub IsEntryLine : Bool → List ℕ → Type 0
-IsEntryLine third line = (e : Entry) × IsEntry third e × (line ≡ line_of e)
+abbrev pub IsEntryLine : (third_word : Bool) (line : List ℕ) → Type 0
+IsEntryLine third_word line = (e : Entry) × IsEntry third_word e × (line ≡ line_of e)
 
 -- the text is the list of these entries
-pub record Lists (third : Bool) (text : List ℕ) (es : List Entry) : Type 0 where
+pub record Lists (third_word : Bool) (text : List ℕ) (es : List Entry) : Type 0 where
   pub octets : length text ≤ 16777216
   pub count : length es ≤ 65536
-  pub entries : All (IsEntry third) es
+  pub entries : All (IsEntry third_word) es
   pub spelled : lines text ≡ map line_of es
 
 -- ---- the refusals
 
 -- the lines before the k-th one, which is this, are entries
-pub record ReachesLine (third : Bool) (text : List ℕ) (es : List Entry) (line : List ℕ)
+pub record ReachesLine (third_word : Bool) (text : List ℕ) (es : List Entry) (line : List ℕ)
     (k : ℕ) : Type 0 where
   pub octets : length text ≤ 16777216
-  pub entries : All (IsEntry third) es
+  pub entries : All (IsEntry third_word) es
   pub rest : (after : List (List ℕ)) × (lines text ≡ map line_of es ++ line ∷ after)
   pub number : k ≡ length es + 1
 
 -- the first line that is refused is the k-th, for this reason: it isn't an entry, or the text is
 -- too long, or the line is an entry too many
-abbrev pub IsRefusedAs : Bool → List ℕ → ℕ → ListFaultKind → Type 0
-IsRefusedAs third text k Syntax =
-    (es : List Entry) × (line : List ℕ) × ReachesLine third text es line k
-    × (length es ≤ 65536) × ¬ (IsEntryLine third line)
-IsRefusedAs third text k Limit =
+abbrev pub IsRefusedAs : (third_word : Bool) (text : List ℕ) (line : ℕ) (kind : ListFaultKind)
+    → Type 0
+IsRefusedAs third_word text k Syntax =
+    (es : List Entry) × (line : List ℕ) × ReachesLine third_word text es line k
+    × (length es ≤ 65536) × ¬ (IsEntryLine third_word line)
+IsRefusedAs third_word text k Limit =
     ((16777216 < length text) × (k ≡ 1))
-    ⊎ ((es : List Entry) × (line : List ℕ) × ReachesLine third text es line k
-    × (length es ≡ 65536) × IsEntryLine third line)
-IsRefusedAs third text k OutOfMemory = k ≡ 0
+    ⊎ ((es : List Entry) × (line : List ℕ) × ReachesLine third_word text es line k
+    × (length es ≡ 65536) × IsEntryLine third_word line)
+IsRefusedAs third_word text k OutOfMemory = k ≡ 0
 
 -- ---- the operation of an id
 
 -- what the entries with an id ask for
-abbrev pub asked_of : List Entry → ℕ → List Asked
-asked_of es id = map (λ e. e.asked) (filter (λ e. id == e.id) es)
+abbrev pub asked_of : (entries : List Entry) (id : ℕ) → List Asked
+asked_of entries id = map (λ e. e.asked) (filter (λ e. id == e.id) entries)
 
 -- whether the names are the same, and so are the interfaces, or there are none
-abbrev pub same_asked : Asked → Asked → Bool
+abbrev pub same_asked : (one other : Asked) → Bool
 same_asked a b = bytes_eq a.name b.name && option_eq bytes_eq a.interface b.interface
 
 -- the one that all of these are the same as
-abbrev pub the_one : List Asked → Option Asked
-the_one [] = None
-the_one (a ∷ others) = if list_all (same_asked a) others then Some a else None
+abbrev pub common_asked : (others : List Asked) → Option Asked
+common_asked [] = None
+common_asked (a ∷ others) = if list_all (same_asked a) others then Some a else None
 
 -- gives the number of the operation with a name, in the interface with a repository id or in none
-abbrev pub Find : Type 0
-Find = List ℕ → Option (List ℕ) → Option ℕ
+abbrev pub OperationLookup : Type 0
+OperationLookup = List ℕ → Option (List ℕ) → Option ℕ
 
 -- the operation of an id, if all its entries have the same name and the same interface or none
-abbrev pub operation_of : Find → List Entry → ℕ → Option ℕ
-operation_of find es id = option_and_then (λ a. find a.name a.interface) (the_one (asked_of es id))
+abbrev pub operation_of : (find : OperationLookup) (entries : List Entry) (id : ℕ) → Option ℕ
+operation_of find entries id =
+    option_and_then (λ a. find a.name a.interface) (common_asked (asked_of entries id))
 
 -- ---- what is stored of a list: the ids, each once, and their operations
 
-abbrev pub flat : {A : Type 0} → Option (Option A) → Option A
-flat None = None
-flat (Some x) = x
+abbrev pub option_flatten : {A : Type 0} (x : Option (Option A)) → Option A
+option_flatten None = None
+option_flatten (Some x) = x
 
 -- the operation that is stored for an id
-abbrev pub kept_operation : List (ℕ × Option OpId) → ℕ → Option OpId
-kept_operation kept id = flat (lookup (nat_eq id) kept)
+abbrev pub kept_operation : (kept : List (ℕ × Option OpId)) (id : ℕ) → Option OpId
+kept_operation kept id = option_flatten (lookup (nat_eq id) kept)
 
 -- the ids of entries, each once, in the order of their first entries
-abbrev pub ids_of : List Entry → List ℕ
+abbrev pub ids_of : (entries : List Entry) → List ℕ
 ids_of [] = []
 ids_of (e ∷ es) = e.id ∷ filter (λ id. not (id == e.id)) (ids_of es)
 
 -- the operation with a number
-abbrev pub as_operation : ℕ → OpId
-as_operation k = record { 0 = k }
+abbrev pub as_operation : (number : ℕ) → OpId
+as_operation number = record { 0 = number }
 
 -- the ids, each with what all its entries ask for
-abbrev pub asked_by : List Entry → List (ℕ × Option Asked)
-asked_by es = map (λ id. (id, the_one (asked_of es id))) (ids_of es)
+abbrev pub common_asked_by_id : (entries : List Entry) → List (ℕ × Option Asked)
+common_asked_by_id entries = map (λ id. (id, common_asked (asked_of entries id))) (ids_of entries)
 
 -- an id with the operation that is found for what is asked for
-abbrev pub found_of : Find → ℕ × Option Asked → ℕ × Option OpId
-found_of find e =
-    (e.0, option_map as_operation (option_and_then (λ a. find a.name a.interface) e.1))
+abbrev pub with_found_operation : (find : OperationLookup) (entry : ℕ × Option Asked) → ℕ
+    × Option OpId
+with_found_operation find entry =
+    (entry.0, option_map as_operation (option_and_then (λ a. find a.name a.interface) entry.1))
 
 -- what is stored of a list: its ids, each with the operation that is found
-abbrev pub kept_of : Find → List Entry → List (ℕ × Option OpId)
-kept_of find es = map (λ id. (id, option_map as_operation (operation_of find es id))) (ids_of es)
+abbrev pub operations_by_id : (find : OperationLookup) (entries : List Entry) → List
+    (ℕ × Option OpId)
+operations_by_id find entries =
+    map (λ id. (id, option_map as_operation (operation_of find entries id))) (ids_of entries)
 
 -- what is stored gives the same operations as the list
-pub record IsOf (find : Find) (es : List Entry) (kept : List (ℕ × Option OpId)) : Type 0 where
+pub record AgreesWithList (find : OperationLookup) (es : List Entry)
+    (kept : List (ℕ × Option OpId)) : Type 0 where
   pub operation : (id : ℕ) → option_map (λ o. o.0) (kept_operation kept id)
       ≡ operation_of find es id
   pub count : length kept ≡ distinct_count nat_eq (map (λ e. e.id) es)
 
 -- what all entries of an id ask for, after one more entry
-abbrev pub joined : Option (Option Asked) → Asked → Option Asked
-joined None a = Some a
-joined (Some None) a = None
-joined (Some (Some b)) a = if same_asked b a then Some b else None
+abbrev pub merged_asked : (kept : Option (Option Asked)) (asked : Asked) → Option Asked
+merged_asked None a = Some a
+merged_asked (Some None) a = None
+merged_asked (Some (Some b)) a = if same_asked b a then Some b else None

@@ -6,30 +6,30 @@ use Rattle.std.specs.Str.{bytes_eq}
 use Rattle.arrayvec.specs.ArrayVec.{ArrayVec}
 use Rattle.giop_sig.specs.declared.types.TypeId.{TypeId}
 use Rattle.giop_sig.specs.declared.announced.Announcement.{Announcement}
-use Rattle.giop_sig.specs.Table.{Node, Table, IsInner, announced, identified_in, node_in}
+use Rattle.giop_sig.specs.Table.{Node, Table, IsPartNumber, announced, identified_in, node_in}
 use Rattle.giop_sig.specs.AnyTypes.{first_types}
 use Rattle.giop_sig.specs.Trees.{AreFormed}
 use Rattle.giop_sig.specs.HeaderTypes.{TableOf}
 use Rattle.giop_sig.specs.Scopes.{Announced, Scope}
 
-abbrev pub number_of_id : Option TypeId → Option ℕ
+abbrev pub number_of_id : (type : Option TypeId) → Option ℕ
 number_of_id t = option_map (λ (x : TypeId). x.0) t
 
 -- whether two keys have the same octets
-abbrev pub key_is : ArrayVec ℕ → ArrayVec ℕ → Bool
-key_is a b = bytes_eq a.items b.items
+abbrev pub same_key_octets : (one other : ArrayVec ℕ) → Bool
+same_key_octets a b = bytes_eq a.items b.items
 
-abbrev pub name_view : ArrayVec ℕ × Option TypeId → List ℕ × Option ℕ
-name_view e = (e.0.items, option_map (λ t. t.0) e.1)
+abbrev pub name_view : (entry : ArrayVec ℕ × Option TypeId) → List ℕ × Option ℕ
+name_view entry = (entry.0.items, option_map (λ t. t.0) entry.1)
 
-abbrev pub announcement_view : Announcement → Announced
+abbrev pub announcement_view : (announcement : Announcement) → Announced
 announcement_view a = record { word = a.word; type = a.type_id.0 }
 
-abbrev pub announced_view : ArrayVec ℕ × Announcement → List ℕ × Announced
-announced_view e = (e.0.items, announcement_view e.1)
+abbrev pub announced_view : (entry : ArrayVec ℕ × Announcement) → List ℕ × Announced
+announced_view entry = (entry.0.items, announcement_view entry.1)
 
-abbrev pub scope_view : ℕ → Table → List (ArrayVec ℕ × Option TypeId)
-    → List (ArrayVec ℕ × Announcement) → Scope
+abbrev pub scope_view : (version : ℕ) (table : Table) (known : List (ArrayVec ℕ × Option TypeId))
+    (announced : List (ArrayVec ℕ × Announcement)) → Scope
 scope_view version t es xs = record {
   table = t;
   names = record {
@@ -40,12 +40,12 @@ scope_view version t es xs = record {
 }
 
 -- a type that other types may have as a part
-abbrev pub IsKnown : List Node → ℕ → Type 0
-IsKnown types i = IsInner types (length types) i
+abbrev pub IsKnown : (types : List Node) (number : ℕ) → Type 0
+IsKnown types number = IsPartNumber types (length types) number
 
-abbrev pub IsKnownType : List Node → Option ℕ → Type 0
+abbrev pub IsKnownType : (types : List Node) (number : Option ℕ) → Type 0
 IsKnownType types None = Unit {0}
-IsKnownType types (Some i) = IsKnown types i
+IsKnownType types (Some number) = IsKnown types number
 
 -- a type that stands for an announcement, in version 3
 pub record IsAnnounced (version : ℕ) (types : List Node) (i : ℕ) : Type 0 where
@@ -54,17 +54,17 @@ pub record IsAnnounced (version : ℕ) (types : List Node) (i : ℕ) : Type 0 wh
   pub is : (index : ℕ) × (node_in types i ≡ announced index)
 
 -- a type that the elements of a sequence may have
-abbrev pub IsElement : ℕ → List Node → ℕ → Type 0
-IsElement version types i = IsKnown types i ⊎ IsAnnounced version types i
+abbrev pub IsElement : (version : ℕ) (types : List Node) (number : ℕ) → Type 0
+IsElement version types number = IsKnown types number ⊎ IsAnnounced version types number
 
 -- a type that may be in another one, perhaps as that of a sequence's elements
-abbrev pub CanStand : Bool → ℕ → List Node → ℕ → Type 0
-CanStand true version types i = IsElement version types i
-CanStand false version types i = IsKnown types i
+abbrev pub CanBeInner : (is_element : Bool) (version : ℕ) (types : List Node) (number : ℕ) → Type 0
+CanBeInner true version types number = IsElement version types number
+CanBeInner false version types number = IsKnown types number
 
 -- a name that is announced
-abbrev pub IsAnnouncedName : ℕ → List Node → List ℕ × Announced → Type 0
-IsAnnouncedName version types e = IsAnnounced version types e.1.type
+abbrev pub IsAnnouncedName : (version : ℕ) (types : List Node) (entry : List ℕ × Announced) → Type 0
+IsAnnouncedName version types entry = IsAnnounced version types entry.1.type
 
 pub record IsDeclaredName (types : List Node) (e : List ℕ × Option ℕ) : Type 0 where
   pub short : length e.0 ≤ 64
@@ -77,7 +77,7 @@ pub record IsScope (s : Scope) : Type 0 where
   pub announced : AllByRecursion (IsAnnouncedName s.table.version s.table.types) s.names.announced
 
 -- a repository id that a type may get, if it gets one
-abbrev pub IsNewIdentity : Table → Option (List ℕ) → Type 0
+abbrev pub IsNewIdentity : (table : Table) (id : Option (List ℕ)) → Type 0
 IsNewIdentity t None = Unit {0}
 IsNewIdentity t (Some id) = (length id ≤ 128) × (identified_in t id ≡ None)
 

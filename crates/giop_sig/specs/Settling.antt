@@ -4,20 +4,21 @@ use Rattle.giop_sig.specs.declared.types.TypeId.{TypeId}
 use Rattle.giop_sig.specs.declared.entries.Entry.{Entry}
 use Rattle.giop_sig.specs.declared.entries.Entry.TheVariants as entries
 use Rattle.giop_sig.specs.declared.entries.EntryWithDepth.{EntryWithDepth}
-use Rattle.giop_sig.specs.RequestList.{flat}
+use Rattle.giop_sig.specs.RequestList.{option_flatten}
 
-abbrev pub type_or : Option TypeId → TypeId
-type_or None = record { 0 = 0 }
-type_or (Some t) = t
+abbrev pub type_or_0 : (type : Option TypeId) → TypeId
+type_or_0 None = record { 0 = 0 }
+type_or_0 (Some t) = t
 
 -- the type that was declared for the announcement at an index
-abbrev pub target_of : List (Option TypeId) → TypeId → TypeId
-target_of targets index = type_or (flat (slice_get targets index.0))
+abbrev pub declared_type_id_at : (targets : List (Option TypeId)) (index : TypeId) → TypeId
+declared_type_id_at targets index = type_or_0 (option_flatten (slice_get targets index.0))
 
-abbrev pub settled_kind : List (Option TypeId) → Entry → Entry
-settled_kind targets (entries.Recursive bound index) =
-    entries.Recursive bound (target_of targets index)
-settled_kind targets entry = entry
+abbrev pub resolved_entry_kind : (targets : List (Option TypeId)) (entry : Entry) → Entry
+resolved_entry_kind targets (entries.Recursive bound index) =
+    entries.Recursive bound (declared_type_id_at targets index)
+resolved_entry_kind targets entry = entry
 
-abbrev pub settled_entry : List (Option TypeId) → EntryWithDepth → EntryWithDepth
-settled_entry targets p = record p { entry = settled_kind targets p.entry }
+abbrev pub resolved_entry : (targets : List (Option TypeId)) (entry : EntryWithDepth)
+    → EntryWithDepth
+resolved_entry targets p = record p { entry = resolved_entry_kind targets p.entry }

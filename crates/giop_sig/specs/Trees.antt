@@ -7,8 +7,8 @@ use Rattle.giop_sig.specs.declared.types.Shape.{Shape}
 use Rattle.giop_sig.specs.declared.types.Shape.TheVariants as shapes
 use Rattle.giop_sig.specs.declared.types.Selected.{Selected}
 use Rattle.giop_sig.specs.declared.types.Selected.TheVariants.{Nothing}
-use Rattle.giop_sig.specs.Types.{Choice, Cases, Tag, Scalar, Plain, Enum, interpreted_by, Ty, Single, Text, Octets, Raw, WideText, WideChar, Struct, Union, Sequence, Array, Encapsulation, Recursive, Led, Marked, Hearing, most}
-use Rattle.giop_sig.specs.Heard.{hears, selects}
+use Rattle.giop_sig.specs.Types.{Choice, Cases, Tag, Scalar, Plain, Enum, interpreted_by, Ty, Single, Text, Octets, Raw, WideText, WideChar, Struct, Union, Sequence, Array, Encapsulation, Recursive, Led, Marked, TypeInference, most}
+use Rattle.giop_sig.specs.Heard.{inferred_after, selects}
 use Rattle.giop_sig.specs.Table.{Part, Node, Table, IsFormed, TakesOctet, takes_octet, name_of, node_at, node_in, part_at, shape_of, switch_at, type_of, selected}
 use Rattle.giop_sig.specs.Table as nodes
 
@@ -17,65 +17,66 @@ use Rattle.giop_sig.specs.Table as nodes
 abbrev pub octet_type : Ty
 octet_type = Single (Plain prims.Octet)
 
-abbrev pub grown_part : (ℕ → Ty) → Option Part → Ty
-grown_part tree None = octet_type
-grown_part tree (Some p) = tree p.type
+abbrev pub part_tree : (tree : ℕ → Ty) (part : Option Part) → Ty
+part_tree tree None = octet_type
+part_tree tree (Some p) = tree p.type
 
-abbrev pub name_or : Option (List ℕ) → List ℕ
+abbrev pub name_or : (name : Option (List ℕ)) → List ℕ
 name_or None = []
 name_or (Some name) = name
 
-abbrev pub scalar_of : Ty → Scalar
-scalar_of (Single scalar) = scalar
-scalar_of T = Plain prims.Octet
+abbrev pub scalar_or_octet : (type : Ty) → Scalar
+scalar_or_octet (Single scalar) = scalar
+scalar_or_octet T = Plain prims.Octet
 
 -- what a value selects; a number that isn't a value selects nothing
-abbrev pub selected_by : (Number → Selected) → Option Number → Selected
+abbrev pub selected_by : (select : Number → Selected) (number : Option Number) → Selected
 selected_by select None = Nothing
 selected_by select (Some number) = select number
 
 -- the union with a node's names and selection, from the types of its discriminator and its cases
-abbrev pub union_of : Choice → Node → Ty → (ℕ → Ty) → Ty
+abbrev pub union_of : (choice : Choice) (node : Node) (switch : Ty) (cases : ℕ → Ty) → Ty
 union_of choice node switch cases =
-    Union choice (scalar_of switch)
-    (λ n. selected_by (selected node) (interpreted_by (scalar_of switch) n))
+    Union choice (scalar_or_octet switch)
+    (λ n. selected_by (selected node) (interpreted_by (scalar_or_octet switch) n))
     (λ i. name_of (part_at node i)) cases
 
-abbrev pub grown_union : (ℕ → Ty) → Choice → Node → Ty
-grown_union tree choice node =
-    union_of choice node (tree (switch_at node)) (λ i. grown_part tree (part_at node i))
+abbrev pub union_tree : (tree : ℕ → Ty) (choice : Choice) (node : Node) → Ty
+union_tree tree choice node =
+    union_of choice node (tree (switch_at node)) (λ i. part_tree tree (part_at node i))
 
 -- What has room as a part: how an any is heard, and which types the elements of a recursive
 -- sequence may have.
-pub record Room : Type 0 where
-  pub hearing : Hearing
+pub record PartLimits : Type 0 where
+  pub hearing : TypeInference
   pub fits : ℕ → Bool
 
 -- the tree of a node, from a tree for each number, in a room
-abbrev pub grow : Room → (ℕ → Ty) → Node → Ty
-grow h tree (nodes.prim p) = Single (Plain p)
-grow h tree (nodes.marked mark) = Single (Marked mark)
-grow h tree (nodes.any code) = Led h.hearing (tree code) tree
-grow h tree (nodes.announced index) = Struct 0 (λ i. []) (λ i. octet_type)
-grow h tree (nodes.recursive bound element) = Recursive bound (h.fits element) (tree element)
-grow h tree (nodes.typecode wide kind cases) =
-    grown_union tree (Cases (length cases)) (nodes.typecode wide kind cases)
-grow h tree (nodes.enumeration names) =
+abbrev pub tree_of_node : (limits : PartLimits) (tree : ℕ → Ty) (node : Node) → Ty
+tree_of_node h tree (nodes.prim p) = Single (Plain p)
+tree_of_node h tree (nodes.marked mark) = Single (Marked mark)
+tree_of_node h tree (nodes.any code) = Led h.hearing (tree code) tree
+tree_of_node h tree (nodes.announced index) = Struct 0 (λ i. []) (λ i. octet_type)
+tree_of_node h tree (nodes.recursive bound element) = Recursive bound (h.fits element)
+    (tree element)
+tree_of_node h tree (nodes.typecode wide kind cases) =
+    union_tree tree (Cases (length cases)) (nodes.typecode wide kind cases)
+tree_of_node h tree (nodes.enumeration names) =
     Single (Enum (length names) (λ i. name_or (slice_get names i)))
-grow h tree (nodes.text bound) = Text bound
-grow h tree (nodes.octets bound) = Octets (Raw bound)
-grow h tree nodes.wide_text = Octets WideText
-grow h tree nodes.wide_char = Octets WideChar
-grow h tree (nodes.members parts) =
+tree_of_node h tree (nodes.text bound) = Text bound
+tree_of_node h tree (nodes.octets bound) = Octets (Raw bound)
+tree_of_node h tree nodes.wide_text = Octets WideText
+tree_of_node h tree nodes.wide_char = Octets WideChar
+tree_of_node h tree (nodes.members parts) =
     Struct (length parts) (λ i. name_of (slice_get parts i))
-    (λ i. grown_part tree (slice_get parts i))
-grow h tree (nodes.union switch cases otherwise) =
-    grown_union tree (Cases (length cases)) (nodes.union switch cases otherwise)
-grow h tree (nodes.sequence bound element) = Sequence bound (tree element)
-grow h tree (nodes.array count element) = Array count (tree element)
-grow h tree (nodes.encapsulation held) = Encapsulation (tree held)
-grow h tree (nodes.tagged special tag inner other) =
-    grown_union tree Tag (nodes.tagged special tag inner other)
+    (λ i. part_tree tree (slice_get parts i))
+tree_of_node h tree (nodes.union switch cases otherwise) =
+    union_tree tree (Cases (length cases)) (nodes.union switch cases otherwise)
+tree_of_node h tree (nodes.sequence bound element) = Sequence bound (tree element)
+tree_of_node h tree (nodes.array count element) = Array count (tree element)
+tree_of_node h tree (nodes.encapsulation held) = Encapsulation (tree held)
+tree_of_node h tree (nodes.tagged special tag inner other) =
+    union_tree tree Tag (nodes.tagged special tag inner other)
 
 -- ---- depth
 
@@ -84,129 +85,137 @@ abbrev pub greatest_depth : ℕ
 greatest_depth = 24
 
 -- the depth of a shape, from the depths of its parts
-abbrev pub depth_by : Shape → (ℕ → ℕ) → ℕ
-depth_by (shapes.Members count) f = 1 + most count f
-depth_by (shapes.Union count) f = 1 + max 1 (most count f)
-depth_by (shapes.Sequence bound) f = 1 + f 0
-depth_by (shapes.Array count) f = 1 + f 0
-depth_by shapes.Encapsulation f = 1 + f 0
-depth_by (shapes.Recursive bound) f = 2
-depth_by shapes.Tagged f = 1 + max 1 (most 3 f)
-depth_by shapes.Led f = 1 + f 0
-depth_by s f = 1
+abbrev pub depth_by : (shape : Shape) (depths : ℕ → ℕ) → ℕ
+depth_by (shapes.Members count) depths = 1 + most count depths
+depth_by (shapes.Union count) depths = 1 + max 1 (most count depths)
+depth_by (shapes.Sequence bound) depths = 1 + depths 0
+depth_by (shapes.Array count) depths = 1 + depths 0
+depth_by shapes.Encapsulation depths = 1 + depths 0
+depth_by (shapes.Recursive bound) depths = 2
+depth_by shapes.Tagged depths = 1 + max 1 (most 3 depths)
+depth_by shapes.Led depths = 1 + depths 0
+depth_by s depths = 1
 
--- the depth of the type with a number, if its parts n levels down count as leaves
-unfoldable pub depth_at : List Node → ℕ → ℕ → ℕ
-depth_at types zero i = 1
-depth_at types (suc n) i =
-    depth_by (shape_of (node_in types i))
-    (λ k. depth_at types n (type_of (part_at (node_in types i) k)))
+-- the depth of the type with a number, if its parts `levels` levels down count as leaves
+unfoldable pub depth_at : (types : List Node) (levels number : ℕ) → ℕ
+depth_at types zero number = 1
+depth_at types (suc levels) number =
+    depth_by (shape_of (node_in types number))
+    (λ k. depth_at types levels (type_of (part_at (node_in types number) k)))
 
 -- The depth of a type, whose parts have smaller numbers. What an any holds doesn't count, nor do
 -- the elements of a recursive sequence, nor parts of a TypeCode that are octets in little room.
-abbrev pub depth_in : List Node → ℕ → ℕ
-depth_in types i = depth_at types (i + suc greatest_depth) i
+abbrev pub depth_in : (types : List Node) (number : ℕ) → ℕ
+depth_in types number = depth_at types (number + suc greatest_depth) number
 
 -- the depth of the part at an index of a node
-abbrev pub part_depth : List Node → Node → ℕ → ℕ
-part_depth types node k = depth_in types (type_of (part_at node k))
+abbrev pub part_depth : (types : List Node) (node : Node) (index : ℕ) → ℕ
+part_depth types node index = depth_in types (type_of (part_at node index))
 
 -- the depth that the type of a node would have
-abbrev pub node_depth : List Node → Node → ℕ
+abbrev pub node_depth : (types : List Node) (node : Node) → ℕ
 node_depth types node = depth_by (shape_of node) (part_depth types node)
 
 -- the greatest depth of these types
-unfoldable pub depth_of : List Node → ℕ
+unfoldable pub depth_of : (types : List Node) → ℕ
 depth_of types = most (length types) (depth_in types)
 
 -- ---- wide text
 
--- whether f is true of one of the first n
-abbrev pub some_of : ℕ → (ℕ → Bool) → Bool
-some_of zero f = false
-some_of (suc n) f = some_of n f || f n
+-- whether f is true of one of the first `count`
+abbrev pub any_below : (count : ℕ) (f : ℕ → Bool) → Bool
+any_below zero f = false
+any_below (suc count) f = any_below count f || f count
 
 -- Whether a shape has wide text: it is wide text, or one of its parts has some. What an any holds
 -- and the elements of a recursive sequence don't count.
-abbrev pub wide_by : Shape → (ℕ → Bool) → Bool
-wide_by shapes.WideText f = true
-wide_by shapes.WideChar f = true
-wide_by (shapes.Members count) f = some_of count f
-wide_by (shapes.Union count) f = some_of count f
-wide_by shapes.Tagged f = some_of 3 f
-wide_by (shapes.Sequence bound) f = f 0
-wide_by (shapes.Array count) f = f 0
-wide_by shapes.Encapsulation f = f 0
-wide_by s f = false
+abbrev pub shape_has_wide_text : (shape : Shape) (wide_parts : ℕ → Bool) → Bool
+shape_has_wide_text shapes.WideText wide_parts = true
+shape_has_wide_text shapes.WideChar wide_parts = true
+shape_has_wide_text (shapes.Members count) wide_parts = any_below count wide_parts
+shape_has_wide_text (shapes.Union count) wide_parts = any_below count wide_parts
+shape_has_wide_text shapes.Tagged wide_parts = any_below 3 wide_parts
+shape_has_wide_text (shapes.Sequence bound) wide_parts = wide_parts 0
+shape_has_wide_text (shapes.Array count) wide_parts = wide_parts 0
+shape_has_wide_text shapes.Encapsulation wide_parts = wide_parts 0
+shape_has_wide_text s wide_parts = false
 
--- whether the type with a number has wide text, if its parts n levels down have none
-unfoldable pub wide_at : List Node → ℕ → ℕ → Bool
-wide_at types zero i = false
-wide_at types (suc n) i =
-    wide_by (shape_of (node_in types i))
-    (λ k. wide_at types n (type_of (part_at (node_in types i) k)))
+-- whether the type with a number has wide text, if its parts `levels` levels down have none
+unfoldable pub has_wide_text_within : (types : List Node) (levels number : ℕ) → Bool
+has_wide_text_within types zero number = false
+has_wide_text_within types (suc levels) number =
+    shape_has_wide_text (shape_of (node_in types number))
+    (λ k. has_wide_text_within types levels (type_of (part_at (node_in types number) k)))
 
 -- whether a type has wide text; its parts have smaller numbers
-abbrev pub wide_in : List Node → ℕ → Bool
-wide_in types i = wide_at types (i + suc greatest_depth) i
+abbrev pub has_wide_text : (types : List Node) (number : ℕ) → Bool
+has_wide_text types number = has_wide_text_within types (number + suc greatest_depth) number
 
 -- whether the part at an index of a node has wide text
-abbrev pub part_wide : List Node → Node → ℕ → Bool
-part_wide types node k = wide_in types (type_of (part_at node k))
+abbrev pub part_has_wide_text : (types : List Node) (node : Node) (index : ℕ) → Bool
+part_has_wide_text types node index = has_wide_text types (type_of (part_at node index))
 
 -- whether the type of a node would have wide text
-abbrev pub node_wide : List Node → Node → Bool
-node_wide types node = wide_by (shape_of node) (part_wide types node)
+abbrev pub node_has_wide_text : (types : List Node) (node : Node) → Bool
+node_has_wide_text types node = shape_has_wide_text (shape_of node) (part_has_wide_text types node)
 
 -- ---- the trees in a room
 
 -- how much room the parameters of a TypeCode need: an encapsulation, its struct, the members, a
 -- member, and a TypeCode, which has depth 3
-abbrev pub wide_room : ℕ
-wide_room = 7
+abbrev pub parameters_room : ℕ
+parameters_room = 7
 
 -- a node whose parts have this room
-abbrev pub in_room : ℕ → Node → Node
-in_room room (nodes.typecode wide kind cases) =
-    nodes.typecode (cond (nat_lt room wide_room) wide None) kind cases
-in_room room node = node
+abbrev pub node_in_room : (room : ℕ) (node : Node) → Node
+node_in_room room (nodes.typecode wide kind cases) =
+    nodes.typecode (cond (nat_lt room parameters_room) wide None) kind cases
+node_in_room room node = node
 
 -- the number of a part's type, if the part has this room
-abbrev pub part_number_in : Table → ℕ → ℕ → ℕ → ℕ
-part_number_in t room id i = type_of (part_at (in_room room (node_at t id)) i)
+abbrev pub part_number_in : (table : Table) (room id index : ℕ) → ℕ
+part_number_in t room id index = type_of (part_at (node_in_room room (node_at t id)) index)
 
 -- whether there is a type with this number that takes an octet and fits into the room
-abbrev pub has_room : Table → ℕ → ℕ → Bool
-has_room t room i =
-    nat_lt i (length t.types) && takes_octet (node_at t i) && nat_le (depth_in t.types i) room
+abbrev pub has_room : (table : Table) (room number : ℕ) → Bool
+has_room t room number =
+    nat_lt number (length t.types) && takes_octet (node_at t number) && nat_le
+    (depth_in t.types number) room
 
 -- whether a type can be that of an any's value or of a recursive sequence's elements; with wide
 -- text it can't in a message of 1.0 or 1.1
-abbrev pub follows : Table → ℕ → ℕ → Bool
-follows t room i = has_room t room i && not (t.narrow && wide_in t.types i)
+abbrev pub can_be_value : (table : Table) (room number : ℕ) → Bool
+can_be_value t room number = has_room t room number && not
+    (t.forbids_wide && has_wide_text t.types number)
 
 -- how an any is heard
-abbrev pub any_hearing : Table → ℕ → Hearing
-any_hearing t room = record { hears = hears t; selects = selects (follows t room) }
+abbrev pub any_inference : (table : Table) (room : ℕ) → TypeInference
+any_inference t room = record {
+  inferred_after = inferred_after t;
+  selects = selects
+      (can_be_value t room);
+}
 
 -- what has room as a part in this room
-abbrev pub room_of : Table → ℕ → Room
-room_of t room = record { hearing = any_hearing t room; fits = follows t room }
+abbrev pub limits_in_room : (table : Table) (room : ℕ) → PartLimits
+limits_in_room t room = record { hearing = any_inference t room; fits = can_be_value t room }
 
 -- the tree of the type with a number: parts may be nested below it as many levels as there is room,
 -- and deeper ones are octets
-unfoldable pub tree_at : Table → ℕ → ℕ → Ty
-tree_at t zero i = grow (room_of t 0) (λ k. octet_type) (in_room 0 (node_at t i))
-tree_at t (suc room) i = grow (room_of t room) (tree_at t room) (in_room room (node_at t i))
+unfoldable pub tree_at : (table : Table) (room number : ℕ) → Ty
+tree_at t zero number = tree_of_node (limits_in_room t 0) (λ k. octet_type)
+    (node_in_room 0 (node_at t number))
+tree_at t (suc room) number =
+    tree_of_node (limits_in_room t room) (tree_at t room) (node_in_room room (node_at t number))
 
 -- the tree of a type in the room that each type of a table has
-abbrev pub tree : Table → ℕ → Ty
-tree t i = tree_at t greatest_depth i
+abbrev pub tree : (table : Table) (number : ℕ) → Ty
+tree t number = tree_at t greatest_depth number
 
 -- ---- tables
 
 -- The depth of a catalogue: that of its deepest type. In version 3 it is the greatest depth.
-abbrev pub catalogue_depth : Table → ℕ
+abbrev pub catalogue_depth : (table : Table) → ℕ
 catalogue_depth t = cond (t.version == 3) 24 (depth_of t.types)
 
 -- each part of a type has a smaller number than the type
@@ -216,34 +225,35 @@ pub record AreFormed (types : List Node) : Type 0 where
       → IsFormed types i (slice_index_or types i (nodes.prim prims.Octet))
 
 -- a type of the table that is no deeper than the parameters of a TypeCode, and takes an octet
-pub record IsWidePart (types : List Node) (i : ℕ) : Type 0 where
+pub record IsParameterType (types : List Node) (i : ℕ) : Type 0 where
   pub known : i < length types
   pub takes : TakesOctet (node_in types i)
-  pub shallow : depth_in types i ≤ wide_room
+  pub shallow : depth_in types i ≤ parameters_room
 
 -- what comes after the kinds of a TypeCode, if there is room for it
-abbrev pub IsWide : List Node → Node → Type 0
-IsWide types (nodes.typecode wide kind cases) = All (λ c. IsWidePart types c.part.type) cases
-IsWide types node = Unit {0}
+abbrev pub HasParameterTypes : (types : List Node) (node : Node) → Type 0
+HasParameterTypes types (nodes.typecode wide kind cases) = All
+    (λ c. IsParameterType types c.part.type) cases
+HasParameterTypes types node = Unit {0}
 
-abbrev pub AreWide : List Node → Type 0
-AreWide types = (i : ℕ) → i < length types → IsWide types (node_in types i)
+abbrev pub AllHaveParameterTypes : (types : List Node) → Type 0
+AllHaveParameterTypes types = (i : ℕ) → i < length types → HasParameterTypes types (node_in types i)
 
 -- a type of the table that takes an octet
-pub record IsTarget (types : List Node) (i : ℕ) : Type 0 where
+pub record IsElementType (types : List Node) (i : ℕ) : Type 0 where
   pub known : i < length types
   pub takes : TakesOctet (node_in types i)
 
 -- a recursive sequence has the type that was declared for its elements
-abbrev pub IsSettled : List Node → Node → Type 0
-IsSettled types (nodes.recursive bound element) = IsTarget types element
-IsSettled types node = Unit {0}
+abbrev pub IsResolved : (types : List Node) (node : Node) → Type 0
+IsResolved types (nodes.recursive bound element) = IsElementType types element
+IsResolved types node = Unit {0}
 
-abbrev pub AreSettled : List Node → Type 0
-AreSettled types = (i : ℕ) → i < length types → IsSettled types (node_in types i)
+abbrev pub AreResolved : (types : List Node) → Type 0
+AreResolved types = (i : ℕ) → i < length types → IsResolved types (node_in types i)
 
 -- types that a table may have: none is deeper than 24, and all that were announced are declared
 pub record AreTypes (types : List Node) : Type 0 where
   pub placed : AreFormed types
   pub shallow : depth_of types ≤ 24
-  pub settled : AreSettled types
+  pub settled : AreResolved types

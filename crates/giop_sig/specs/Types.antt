@@ -22,16 +22,16 @@ pub data Scalar : Type 0 where
   Marked : ℕ → Scalar
 
 -- how many octets the number takes
-abbrev pub width : Scalar → ℕ
+abbrev pub width : (scalar : Scalar) → ℕ
 width (Plain p) = size_of p
 width (Enum count names) = 4
 width (Marked mark) = 4
 
 -- the value that a whole number is; none for a boolean above 1
-abbrev pub interpreted_by : Scalar → ℕ → Option Number
-interpreted_by (Plain p) n = interpreted_as p n
-interpreted_by (Enum count names) n = Some (numbers.Unsigned n)
-interpreted_by (Marked mark) n = Some (numbers.Unsigned n)
+abbrev pub interpreted_by : (scalar : Scalar) (number : ℕ) → Option Number
+interpreted_by (Plain p) number = interpreted_as p number
+interpreted_by (Enum count names) number = Some (numbers.Unsigned number)
+interpreted_by (Marked mark) number = Some (numbers.Unsigned number)
 
 -- what a union's discriminator selects from: n cases; or the discriminator is a tag, which is a
 -- member itself, part 0 of three
@@ -40,16 +40,17 @@ pub data Choice : Type 0 where
   Tag : Choice
 
 -- how many parts there are
-abbrev pub case_count : Choice → ℕ
+abbrev pub case_count : (choice : Choice) → ℕ
 case_count (Cases n) = n
 case_count Tag = 3
 
 -- The name of the discriminator, if it has one: a tag has that of a member, and a number with a
 -- mark is the `kind` of a TypeCode.
-abbrev pub tag_of : Choice → Scalar → (ℕ → List ℕ) → Option (List ℕ)
-tag_of (Cases n) (Marked mark) names = Some (codes "kind")
-tag_of (Cases n) scalar names = None
-tag_of Tag scalar names = Some (names 0)
+abbrev pub discriminator_name : (choice : Choice) (scalar : Scalar) (names : ℕ → List ℕ) → Option
+    (List ℕ)
+discriminator_name (Cases n) (Marked mark) names = Some (codes "kind")
+discriminator_name (Cases n) scalar names = None
+discriminator_name Tag scalar names = Some (names 0)
 
 -- ---- what a value tells about what comes next in it
 
@@ -61,20 +62,20 @@ pub data Sign : Type 0 where
   Spelt : List ℕ → Bool → Sign
 
 -- What has been told so far.
-pub data Told : Type 0 where
+pub data InferredType : Type 0 where
   -- nothing
-  Untold : Told
+  Untold : InferredType
   -- the repository id of a kind comes; the number is that of the front of both, as far as they have
   -- come
-  Awaits : ℕ → Told
+  Awaits : ℕ → InferredType
   -- this type, if the count that comes next is that of its members
-  Offers : ℕ → Told
+  Offers : ℕ → InferredType
   -- this type
-  Is : ℕ → Told
+  Is : ℕ → InferredType
   -- no octets come
-  Empty : Told
+  Empty : InferredType
   -- what comes has no known type
-  Unknown : Told
+  Unknown : InferredType
 
 -- what comes next: the part with a number, no part, or octets of no known type
 pub data Sequel : Type 0 where
@@ -83,12 +84,12 @@ pub data Sequel : Type 0 where
   Stops : Sequel
 
 -- How a value is heard: what has been told after a sign, and what is selected by that.
-pub record Hearing : Type 0 where
-  pub hears : Told → Sign → Told
-  pub selects : Told → Sequel
+pub record TypeInference : Type 0 where
+  pub inferred_after : InferredType → Sign → InferredType
+  pub selects : InferredType → Sequel
 
 -- what comes next: no part if nothing has been told
-abbrev pub sequel : Hearing → Told → Sequel
+abbrev pub sequel : (inference : TypeInference) (inferred : InferredType) → Sequel
 sequel h Untold = Ends
 sequel h told = h.selects told
 
@@ -101,13 +102,13 @@ pub data OctetKind : Type 0 where
   WideChar : OctetKind
 
 -- how many octets the number before them takes
-abbrev pub size_width : OctetKind → ℕ
+abbrev pub size_width : (kind : OctetKind) → ℕ
 size_width (Raw bound) = 4
 size_width WideText = 4
 size_width WideChar = 1
 
 -- how many octets there may be
-abbrev pub bound_of : OctetKind → Option ℕ
+abbrev pub bound_of : (kind : OctetKind) → Option ℕ
 bound_of (Raw bound) = bound
 bound_of kind = None
 
@@ -131,71 +132,72 @@ pub data Ty : Type 0 where
   Recursive : Option ℕ → Bool → Ty → Ty
   -- a part that tells what comes after it: how it is heard, its type, and the types of what may
   -- come
-  Led : Hearing → Ty → (ℕ → Ty) → Ty
+  Led : TypeInference → Ty → (ℕ → Ty) → Ty
 
 -- ---- the parts of a type
 
 -- the part that tells is at index 0, and what may come after it is at the indices from 1 on
-abbrev pub led_part : Ty → (ℕ → Ty) → ℕ → Ty
+abbrev pub led_part : (type : Ty) (parts : ℕ → Ty) (index : ℕ) → Ty
 led_part F parts zero = F
-led_part F parts (suc i) = parts i
+led_part F parts (suc index) = parts index
 
 -- the part at an index; an element is at each index
-abbrev pub part_of : Ty → ℕ → Ty
-part_of (Struct count names parts) i = parts i
-part_of (Union choice scalar select names cases) i = cases i
-part_of (Array count T) i = T
-part_of (Sequence bound T) i = T
-part_of (Encapsulation T) i = T
-part_of (Recursive bound fits T) i = T
-part_of (Led h F parts) i = led_part F parts i
-part_of T i = T
+abbrev pub part_of : (type : Ty) (index : ℕ) → Ty
+part_of (Struct count names parts) index = parts index
+part_of (Union choice scalar select names cases) index = cases index
+part_of (Array count T) index = T
+part_of (Sequence bound T) index = T
+part_of (Encapsulation T) index = T
+part_of (Recursive bound fits T) index = T
+part_of (Led h F parts) index = led_part F parts index
+part_of T index = T
 
 -- the name of the part at an index; an element has none
-abbrev pub name_in : Ty → ℕ → List ℕ
-name_in (Struct count names parts) i = names i
-name_in (Union choice scalar select names cases) i = names i
-name_in T i = []
+abbrev pub name_in : (type : Ty) (index : ℕ) → List ℕ
+name_in (Struct count names parts) index = names index
+name_in (Union choice scalar select names cases) index = names index
+name_in T index = []
 
 -- the name of an enum's number, or the word of a kind
-abbrev pub enum_name_in : Ty → ℕ → Option (List ℕ)
-enum_name_in (Single (Enum count names)) n = cond (nat_lt n count) (Some (names n)) None
-enum_name_in (Single (Marked mark)) n = marked_word mark n
-enum_name_in T n = None
+abbrev pub enum_name_in : (type : Ty) (number : ℕ) → Option (List ℕ)
+enum_name_in (Single (Enum count names)) number =
+    cond (nat_lt number count) (Some (names number)) None
+enum_name_in (Single (Marked mark)) number = marked_word mark number
+enum_name_in T number = None
 
 -- the type of a union's discriminator
-abbrev pub switch_of : Ty → Ty
+abbrev pub switch_of : (type : Ty) → Ty
 switch_of (Union choice scalar select names cases) = Single scalar
 switch_of T = T
 
 -- what the whole number of a union's discriminator selects
-abbrev pub select_in : Ty → ℕ → Selected
-select_in (Union choice scalar select names cases) n = select n
-select_in T n = Nothing
+abbrev pub select_in : (type : Ty) (number : ℕ) → Selected
+select_in (Union choice scalar select names cases) number = select number
+select_in T number = Nothing
 
 -- whether the elements of a sequence have room; only those of a recursive sequence may have none
-abbrev pub elements_fit : Ty → Bool
+abbrev pub elements_fit : (type : Ty) → Bool
 elements_fit (Recursive bound fits T) = fits
 elements_fit T = true
 
 -- the value that a discriminator's number is, in a type of one number
-abbrev pub interpreted_in : Ty → ℕ → Option Number
-interpreted_in (Single scalar) n = interpreted_by scalar n
-interpreted_in T n = None
+abbrev pub interpreted_in : (type : Ty) (number : ℕ) → Option Number
+interpreted_in (Single scalar) number = interpreted_by scalar number
+interpreted_in T number = None
 
 -- ---- shapes and indices
 
-abbrev pub union_shape : Choice → Shape
+abbrev pub union_shape : (choice : Choice) → Shape
 union_shape (Cases n) = shapes.Union n
 union_shape Tag = shapes.Tagged
 
-abbrev pub octets_shape : OctetKind → Shape
+abbrev pub octets_shape : (kind : OctetKind) → Shape
 octets_shape (Raw bound) = shapes.Octets bound
 octets_shape WideText = shapes.WideText
 octets_shape WideChar = shapes.WideChar
 
 -- the outermost form of a type
-abbrev pub shape_in : Ty → Shape
+abbrev pub shape_in : (type : Ty) → Shape
 shape_in (Single (Plain p)) = shapes.Prim p
 shape_in (Single (Enum count names)) = shapes.Enumeration count
 shape_in (Single (Marked mark)) = shapes.Marked mark
@@ -210,11 +212,11 @@ shape_in (Recursive bound fits T) = shapes.Recursive bound
 shape_in (Led h F parts) = shapes.Led
 
 -- a type has this outermost form
-abbrev pub HasShape : Ty → Shape → Type 0
+abbrev pub HasShape : (type : Ty) (shape : Shape) → Type 0
 HasShape T (shapes.Prim p) = T ≡ Single (Plain p)
 HasShape T (shapes.Enumeration count) = (names : ℕ → List ℕ) × (T ≡ Single (Enum count names))
 HasShape T (shapes.Marked mark) = T ≡ Single (Marked mark)
-HasShape T shapes.Led = (h : Hearing) × (F : Ty) × (parts : ℕ → Ty) × (T ≡ Led h F parts)
+HasShape T shapes.Led = (h : TypeInference) × (F : Ty) × (parts : ℕ → Ty) × (T ≡ Led h F parts)
 HasShape T (shapes.Text bound) = T ≡ Text bound
 HasShape T (shapes.Octets bound) = T ≡ Octets (Raw bound)
 HasShape T shapes.WideText = T ≡ Octets WideText
@@ -233,46 +235,46 @@ HasShape T shapes.Tagged =
     × (T ≡ Union Tag scalar select names cases)
 
 -- a shape whose parts have names has a part at this index
-abbrev pub HasMember : Shape → ℕ → Type 0
-HasMember (shapes.Members count) i = i < count
-HasMember (shapes.Union count) i = i < count
-HasMember shapes.Tagged i = i < 3
-HasMember s i = ⊥
+abbrev pub HasMember : (shape : Shape) (index : ℕ) → Type 0
+HasMember (shapes.Members count) index = index < count
+HasMember (shapes.Union count) index = index < count
+HasMember shapes.Tagged index = index < 3
+HasMember s index = ⊥
 
 -- a shape has a part at this index; elements are at each index
-abbrev pub HasIndex : Shape → ℕ → Type 0
-HasIndex (shapes.Members count) i = i < count
-HasIndex (shapes.Union count) i = i < count
-HasIndex (shapes.Sequence bound) i = Unit {0}
-HasIndex (shapes.Array count) i = Unit {0}
-HasIndex shapes.Encapsulation i = Unit {0}
-HasIndex (shapes.Recursive bound) i = Unit {0}
-HasIndex shapes.Led i = Unit {0}
-HasIndex shapes.Tagged i = i < 3
-HasIndex s i = ⊥
+abbrev pub HasIndex : (shape : Shape) (index : ℕ) → Type 0
+HasIndex (shapes.Members count) index = index < count
+HasIndex (shapes.Union count) index = index < count
+HasIndex (shapes.Sequence bound) index = Unit {0}
+HasIndex (shapes.Array count) index = Unit {0}
+HasIndex shapes.Encapsulation index = Unit {0}
+HasIndex (shapes.Recursive bound) index = Unit {0}
+HasIndex shapes.Led index = Unit {0}
+HasIndex shapes.Tagged index = index < 3
+HasIndex s index = ⊥
 
 -- The part at this index has a smaller number than the type. All parts have, apart from what may
 -- come after a part that tells it, and from the elements of a recursive sequence.
-abbrev pub HasInner : Shape → ℕ → Type 0
-HasInner shapes.Led i = i ≡ 0
-HasInner (shapes.Recursive bound) i = ⊥
-HasInner s i = HasIndex s i
+abbrev pub HasSmallerPart : (shape : Shape) (index : ℕ) → Type 0
+HasSmallerPart shapes.Led index = index ≡ 0
+HasSmallerPart (shapes.Recursive bound) index = ⊥
+HasSmallerPart s index = HasIndex s index
 
-abbrev pub IsUnion : Shape → Type 0
+abbrev pub IsUnion : (shape : Shape) → Type 0
 IsUnion (shapes.Union count) = Unit {0}
 IsUnion shapes.Tagged = Unit {0}
 IsUnion s = ⊥
 
 -- ---- depth
 
--- the greatest of the first n numbers; 0 if there are none
-abbrev pub most : ℕ → (ℕ → ℕ) → ℕ
-most zero f = 0
-most (suc n) f = max (most n f) (f n)
+-- the greatest of the first `count` numbers; 0 if there are none
+abbrev pub most : (count : ℕ) (number : ℕ → ℕ) → ℕ
+most zero number = 0
+most (suc count) number = max (most count number) (number count)
 
 -- 1 for a leaf, and otherwise 1 more than the deepest part; a union's discriminator is one of its
 -- parts
-unfoldable pub depth : Ty → ℕ
+unfoldable pub depth : (type : Ty) → ℕ
 depth (Single scalar) = 1
 depth (Text bound) = 1
 depth (Octets kind) = 1

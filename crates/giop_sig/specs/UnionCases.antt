@@ -10,34 +10,36 @@ use Rattle.giop_sig.specs.declared.entries.CaseEntry.{CaseEntry}
 use Rattle.giop_sig.specs.declared.cases.PlacedLabel.{PlacedLabel}
 use Rattle.giop_sig.specs.Table.{Part, Case, case_with}
 
-abbrev pub part_view : PartEntry → Part
+abbrev pub part_view : (part : PartEntry) → Part
 part_view p = record { name = p.name; type = p.type_id.0 }
 
-abbrev pub case_view : CaseEntry → Case
+abbrev pub case_view : (union_case : CaseEntry) → Case
 case_view c = record { labels = c.labels.items; part = part_view c.part }
 
 -- the key by which a number is sorted; different values of one type have different keys
-abbrev pub key_of : Number → ℕ
-key_of (numbers.Unsigned n) = n
-key_of (numbers.Signed n) = cast_unsigned w64 n
-key_of (numbers.Bits n) = n
-key_of (numbers.Truth b) = from_bool b
-key_of (numbers.Char n) = n
+abbrev pub sort_key_of : (number : Number) → ℕ
+sort_key_of (numbers.Unsigned n) = n
+sort_key_of (numbers.Signed n) = cast_unsigned w64 n
+sort_key_of (numbers.Bits n) = n
+sort_key_of (numbers.Truth b) = from_bool b
+sort_key_of (numbers.Char n) = n
 
 -- the keys ascend
-abbrev pub Rise : List PlacedLabel → Type 0
-Rise ls = (i j : ℕ) (d : PlacedLabel) → i < j → j < length ls
-    → key_of (slice_index_or ls i d).number < key_of (slice_index_or ls j d).number
+abbrev pub KeysRise : (labels : List PlacedLabel) → Type 0
+KeysRise labels = (i j : ℕ) (d : PlacedLabel) → i < j → j < length labels
+    → sort_key_of (slice_index_or labels i d).number < sort_key_of
+    (slice_index_or labels j d).number
 
-abbrev pub placed : ℕ → Number → PlacedLabel
-placed i n = record { number = n; index = i }
+abbrev pub placed_label : (index : ℕ) (number : Number) → PlacedLabel
+placed_label i n = record { number = n; index = i }
 
 -- each number of the list selects a case, and the case that a number selects is with it in the list
 pub record AreLabels (cases : List Case) (ls : List PlacedLabel) : Type 0 where
   pub each : All (λ l. case_with l.number cases ≡ None → ⊥) ls
-  pub whole : (n : Number) (i : ℕ) → case_with n cases ≡ Some i → Contains ls (placed i n)
+  pub whole : (n : Number) (i : ℕ) → case_with n cases ≡ Some i → Contains ls (placed_label i n)
 
 -- the labels of the cases; their keys ascend if that is noted
-pub record AreFound (cases : List Case) (ls : List PlacedLabel) (rises : Bool) : Type 0 where
+pub record AreLabelsRisingIf (cases : List Case) (ls : List PlacedLabel)
+    (rises : Bool) : Type 0 where
   pub labels : AreLabels cases ls
-  pub order : rises ≡ true → Rise ls
+  pub order : rises ≡ true → KeysRise ls

@@ -7,16 +7,16 @@ use Rattle.giop_sig.specs.declared.entries.EntryWithDepth.{EntryWithDepth}
 use Rattle.giop_sig.specs.declared.entries.TypeCodeEntry.{TypeCodeEntry}
 use Rattle.giop_sig.specs.HeaderTypes.{IsTable}
 use Rattle.giop_sig.specs.Table.{Node, Table, prim, enumeration, text, octets, wide_text, wide_char, members, union, sequence, array, encapsulation, tagged, marked, any, announced, recursive, typecode}
-use Rattle.giop_sig.specs.Trees.{AreFormed, depth_in, depth_of, wide_in}
+use Rattle.giop_sig.specs.Trees.{AreFormed, depth_in, depth_of, has_wide_text}
 use Rattle.giop_sig.specs.UnionCases.{part_view}
 
-abbrev pub tag_view : TagEntry → Node
+abbrev pub tag_view : (entry : TagEntry) → Node
 tag_view t = tagged t.special (part_view t.tag) (part_view t.inner) (part_view t.other)
 
-abbrev pub code_view : TypeCodeEntry → Node
+abbrev pub code_view : (entry : TypeCodeEntry) → Node
 code_view c = typecode (Some c.wide.0) c.kind.0 c.cases
 
-abbrev pub node_view : Entry → Node
+abbrev pub node_view : (entry : Entry) → Node
 node_view (entries.Prim p) = prim p
 node_view (entries.Enumeration names) = enumeration (map (λ n. n.items) names.items)
 node_view (entries.Text bound) = text bound
@@ -37,27 +37,27 @@ node_view (entries.Announced index) = announced index
 node_view (entries.Recursive bound element) = recursive bound element.0
 
 -- an entry with at most as many parts or names as a shape can count
-abbrev pub IsSized : Entry → Type 0
-IsSized (entries.Enumeration names) = length names.items ≤ 1024
-IsSized (entries.Members parts) = length parts.items ≤ 256
-IsSized (entries.Union switch cases otherwise) = length cases ≤ 256
-IsSized (entries.TypeCode code) = length code.cases ≤ 256
-IsSized entry = Unit {0}
+abbrev pub HasCountableParts : (entry : Entry) → Type 0
+HasCountableParts (entries.Enumeration names) = length names.items ≤ 1024
+HasCountableParts (entries.Members parts) = length parts.items ≤ 256
+HasCountableParts (entries.Union switch cases otherwise) = length cases ≤ 256
+HasCountableParts (entries.TypeCode code) = length code.cases ≤ 256
+HasCountableParts entry = Unit {0}
 
-abbrev pub nodes_view : List EntryWithDepth → List Node
-nodes_view ps = map (λ p. node_view p.entry) ps
+abbrev pub nodes_view : (entries : List EntryWithDepth) → List Node
+nodes_view entries = map (λ p. node_view p.entry) entries
 
 -- a table as messages see it, and the entries of its types
-pub record IsSeen (t : Table) (ps : List EntryWithDepth) : Type 0 where
+pub record IsTableWithEntries (t : Table) (ps : List EntryWithDepth) : Type 0 where
   pub table : IsTable t
   pub entries : nodes_view ps ≡ t.types
 
 -- the depth of each entry's type, whether it has wide text, and the greatest depth, as they are
 -- kept
-pub record IsKept (ps : List EntryWithDepth) (deepest : ℕ) : Type 0 where
+pub record AreDepthsKept (ps : List EntryWithDepth) (deepest : ℕ) : Type 0 where
   pub types : AreFormed (nodes_view ps)
   pub each : (i : ℕ) → i < length ps
       → slice_index_or (map (λ p. p.depth) ps) i 0 ≡ depth_in (nodes_view ps) i
   pub wide : (i : ℕ) → i < length ps
-      → slice_index_or (map (λ p. p.wide) ps) i false ≡ wide_in (nodes_view ps) i
+      → slice_index_or (map (λ p. p.wide) ps) i false ≡ has_wide_text (nodes_view ps) i
   pub greatest : deepest ≡ depth_of (nodes_view ps)

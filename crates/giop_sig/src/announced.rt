@@ -3,7 +3,7 @@
 ghost use Rattle.std.specs.Prelude.{◌≡◌};
 ghost use Rattle.std.specs.Option.{option_map};
 ghost use Rattle.giop_sig.specs.ScopeViews.{announcement_view};
-ghost use Rattle.giop_sig.specs.Validity.{can_declare};
+ghost use Rattle.giop_sig.specs.Validity.{matches_announcement};
 
 use crate::types::TypeId;
 
@@ -24,8 +24,8 @@ pub(crate) struct Announcement {
 
 /// Whether a declaration can be of a name that is announced like this. `word` is its first word, if
 /// that is a struct's or a union's.
-pub(crate) fn can_declare(word: Option<TypeWord>, announced: Option<Announcement>) -> bool
-    ensures { result ≡ can_declare word (option_map announcement_view announced) }
+pub(crate) fn matches_announcement(word: Option<TypeWord>, announced: Option<Announcement>) -> bool
+    ensures { result ≡ matches_announcement word (option_map announcement_view announced) }
 {
     match announced {
         None => true,

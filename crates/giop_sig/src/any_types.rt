@@ -21,25 +21,25 @@ use crate::numbers::{
 const PARAMETERS: &[u8] = b"parameters";
 
 /// The type of a number that a file of version 3 adds.
-pub(crate) fn third_literal(number: u32) -> Literal
+pub(crate) fn any_types_literal(number: u32) -> Literal
     requires low { BUILTIN_LEN ≤ number }
     requires high { number < THIRD_LEN }
     ensures { literal_node result ≡ node_in any_types (number - BUILTIN_LEN) }
 {
     if number < NAMED {
-        coded(number)
+        sequence_or_any_literal(number)
     } else if number < HEARD_SEQUENCE {
-        named(number)
+        named_parameters_literal(number)
     } else if number < WIDE_CHAR {
-        holding(number)
+        holder_or_value_literal(number)
     } else {
-        wide(number)
+        wide_text_literal(number)
     }
 }
 
 /// Numbers with marks, sequences, TypeCodes and anys.
 #[tactic(auto, unfolding(crate::specs::AnyTypes::any_types))]
-fn coded(number: u32) -> Literal
+fn sequence_or_any_literal(number: u32) -> Literal
     requires low { BUILTIN_LEN ≤ number }
     requires high { number < NAMED }
     ensures { literal_node result ≡ node_in any_types (number - BUILTIN_LEN) }
@@ -95,7 +95,7 @@ fn coded(number: u32) -> Literal
 
 /// The parameters of kinds with an id, and of their members.
 #[tactic(auto, unfolding(crate::specs::AnyTypes::any_types))]
-fn named(number: u32) -> Literal
+fn named_parameters_literal(number: u32) -> Literal
     requires low { NAMED ≤ number }
     requires high { number < HEARD_SEQUENCE }
     ensures { literal_node result ≡ node_in any_types (number - BUILTIN_LEN) }
@@ -130,7 +130,7 @@ fn named(number: u32) -> Literal
 
 /// The parameters of kinds that hold another type, and those of values.
 #[tactic(auto, unfolding(crate::specs::AnyTypes::any_types))]
-fn holding(number: u32) -> Literal
+fn holder_or_value_literal(number: u32) -> Literal
     requires low { HEARD_SEQUENCE ≤ number }
     requires high { number < WIDE_CHAR }
     ensures { literal_node result ≡ node_in any_types (number - BUILTIN_LEN) }
@@ -183,7 +183,7 @@ fn holding(number: u32) -> Literal
 
 /// Wide text, and sequences of it.
 #[tactic(auto, unfolding(crate::specs::AnyTypes::any_types))]
-fn wide(number: u32) -> Literal
+fn wide_text_literal(number: u32) -> Literal
     requires low { WIDE_CHAR ≤ number }
     requires high { number < THIRD_LEN }
     ensures { literal_node result ≡ node_in any_types (number - BUILTIN_LEN) }

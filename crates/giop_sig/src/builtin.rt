@@ -2,14 +2,14 @@
 ghost use Rattle.std.specs.Prelude.{◌≡◌, ◌<◌, ◌≤◌, ◌++◌, length, map, IfOk, IfErr};
 ghost use Rattle.std.specs.Option.{option_map};
 ghost use Rattle.giop_sig.specs.Table.{node_in};
-ghost use Rattle.giop_sig.specs.Builtin.{builtin_types, number_in, older, renumbered, renumbered_part, renumbered_case};
-ghost use Rattle.giop_sig.specs.HeaderTypes.{header_number, fixed_number};
+ghost use Rattle.giop_sig.specs.Builtin.{builtin_types, number_in_version, older_number, renumbered, renumbered_part, renumbered_case};
+ghost use Rattle.giop_sig.specs.HeaderTypes.{header_type_number, fixed_type_number};
 ghost use Rattle.giop_sig.specs.Views.{node_view};
 ghost use Rattle.giop_sig.specs.UnionCases.{part_view, case_view};
-ghost use Rattle.giop_sig.specs.AnyTypes.{first_types, third_types};
+ghost use Rattle.giop_sig.specs.AnyTypes.{first_types, version_3_types};
 ghost use Rattle.giop_sig.specs.Literals.{literal_node, literal_part, literal_parameters, literal_case};
 
-use crate::any_types::third_literal;
+use crate::any_types::any_types_literal;
 use crate::cases::UnionCases;
 use crate::draft::THIRD_VERSION;
 use crate::entries::{CaseEntry, Entry, PartEntry, TagEntry, TypeCodeEntry, Types};
@@ -97,33 +97,34 @@ static HEADER_TYPES: [[Option<u32>; 3]; 8] = [
 
 /// The number of a type in a version of signature files, from its number in version 3. Each version
 /// other than 3 is like version 1.
-pub(crate) fn number_in(version: u8, number: u32) -> u32
-    ensures { result ≡ number_in version number }
+pub(crate) fn number_in_version(file_version: u8, version_3_type: u32) -> u32
+    ensures { result ≡ number_in_version file_version version_3_type }
 {
-    if version == THIRD_VERSION || number < CONTEXT_ID {
-        number
-    } else if number < CODE_SETS {
+    if file_version == THIRD_VERSION || version_3_type < CONTEXT_ID {
+        version_3_type
+    } else if version_3_type < CODE_SETS {
         ULONG
     } else {
-        number - NAMED_NUMBERS
+        version_3_type - NAMED_NUMBERS
     }
 }
 
 /// The header type for a minor version of GIOP and a message type, in a version of signature files.
-pub(crate) fn header_id(version: u8, minor: u8, kind: u8) -> Option<TypeId>
-    ensures { option_map (λ t. t.0) result ≡ header_number version minor kind }
+pub(crate) fn header_type_id(file_version: u8, giop_minor: u8, message_type: u8) -> Option<TypeId>
+    ensures { option_map (λ t. t.0) result
+        ≡ header_type_number file_version giop_minor message_type }
 {
-    let row = HEADER_TYPES.get(kind as usize)?;
-    match row.get(minor as usize) {
-        Some(Some(number)) => Some(TypeId(number_in(version, *number))),
+    let row = HEADER_TYPES.get(message_type as usize)?;
+    match row.get(giop_minor as usize) {
+        Some(Some(number)) => Some(TypeId(number_in_version(file_version, *number))),
         Some(None) => None,
         None => None,
     }
 }
 
 /// The type of a body that isn't declared, in a version of signature files.
-pub(crate) fn fixed_id(version: u8, fixed: Fixed) -> TypeId
-    ensures { result.0 ≡ fixed_number version fixed }
+pub(crate) fn fixed_type_id(file_version: u8, fixed: Fixed) -> TypeId
+    ensures { result.0 ≡ fixed_type_number file_version fixed }
 {
     let number = match fixed {
         Fixed::ExceptionId => STRING,
@@ -131,29 +132,30 @@ pub(crate) fn fixed_id(version: u8, fixed: Fixed) -> TypeId
         Fixed::Forward => IOR,
         Fixed::Addressing => SHORT,
     };
-    TypeId(number_in(version, number))
+    TypeId(number_in_version(file_version, number))
 }
 
 /// The type of a number in a version. The numbers in it are those of version 3.
 #[tactic(auto, using(crate::proofs::Builtins::in_third, crate::proofs::Builtins::in_older, crate::proofs::Builtins::known_older))]
-fn literal_in(version: u8, number: u32) -> Literal
+fn literal_in_version(version: u8, number: u32) -> Literal
     requires { number < length (first_types version) }
-    ensures { renumbered (number_in version) (literal_node result)
+    ensures { renumbered (number_in_version version) (literal_node result)
         ≡ node_in (first_types version) number }
 {
     if version == THIRD_VERSION {
-        literal_of(number)
+        version_3_literal(number)
     } else {
-        literal_of(later_number(number))
+        version_3_literal(version_3_number(number))
     }
 }
 
 /// The number in version 3, from that in versions 1 and 2.
 #[tactic(auto, using(crate::proofs::Builtins::leaf_older, crate::proofs::Builtins::later_older))]
-fn later_number(number: u32) -> u32
+fn version_3_number(number: u32) -> u32
     requires { number < length builtin_types }
     ensures known { result < THIRD_LEN }
-    ensures is { renumbered older (node_in third_types result) ≡ node_in builtin_types number }
+    ensures is { renumbered older_number (node_in version_3_types result)
+        ≡ node_in builtin_types number }
 {
     if number < CONTEXT_ID {
         number
@@ -164,28 +166,28 @@ fn later_number(number: u32) -> u32
 
 /// The type of a number in version 3.
 #[tactic(auto, using(crate::proofs::Builtins::third_node))]
-fn literal_of(number: u32) -> Literal
+fn version_3_literal(number: u32) -> Literal
     requires { number < THIRD_LEN }
-    ensures { literal_node result ≡ node_in third_types number }
+    ensures { literal_node result ≡ node_in version_3_types number }
 {
     if number < CODE_SETS {
-        leaf(number)
+        leaf_literal(number)
     } else if number < COMPLETED {
-        reference(number)
+        reference_literal(number)
     } else if number < REQUEST_1_0 {
-        status(number)
+        status_literal(number)
     } else if number < BUILTIN_LEN {
-        header(number)
+        header_literal(number)
     } else {
-        third_literal(number)
+        any_types_literal(number)
     }
 }
 
 /// The types without parts, apart from enums.
-#[tactic(auto, unfolding(crate::specs::AnyTypes::third_types))]
-fn leaf(number: u32) -> Literal
+#[tactic(auto, unfolding(crate::specs::AnyTypes::version_3_types))]
+fn leaf_literal(number: u32) -> Literal
     requires { number < CODE_SETS }
-    ensures { literal_node result ≡ node_in third_types number }
+    ensures { literal_node result ≡ node_in version_3_types number }
 {
     match number {
         OCTET => Literal::Prim(Prim::Octet),
@@ -210,11 +212,11 @@ fn leaf(number: u32) -> Literal
 }
 
 /// Contexts, profiles and references. Each member is a row of its name and the number of its type.
-#[tactic(auto, unfolding(crate::specs::AnyTypes::third_types))]
-fn reference(number: u32) -> Literal
+#[tactic(auto, unfolding(crate::specs::AnyTypes::version_3_types))]
+fn reference_literal(number: u32) -> Literal
     requires low { CODE_SETS ≤ number }
     requires high { number < COMPLETED }
-    ensures { literal_node result ≡ node_in third_types number }
+    ensures { literal_node result ≡ node_in version_3_types number }
 {
     match number {
         CODE_SETS => Literal::Members(&[
@@ -265,11 +267,11 @@ fn reference(number: u32) -> Literal
 }
 
 /// How a request ended, and its reserved octets.
-#[tactic(auto, unfolding(crate::specs::AnyTypes::third_types))]
-fn status(number: u32) -> Literal
+#[tactic(auto, unfolding(crate::specs::AnyTypes::version_3_types))]
+fn status_literal(number: u32) -> Literal
     requires low { COMPLETED ≤ number }
     requires high { number < REQUEST_1_0 }
-    ensures { literal_node result ≡ node_in third_types number }
+    ensures { literal_node result ≡ node_in version_3_types number }
 {
     match number {
         COMPLETED => Literal::Names(&[b"COMPLETED_YES", b"COMPLETED_NO", b"COMPLETED_MAYBE"]),
@@ -307,11 +309,11 @@ fn status(number: u32) -> Literal
 }
 
 /// The header types.
-#[tactic(auto, unfolding(crate::specs::AnyTypes::third_types))]
-fn header(number: u32) -> Literal
+#[tactic(auto, unfolding(crate::specs::AnyTypes::version_3_types))]
+fn header_literal(number: u32) -> Literal
     requires low { REQUEST_1_0 ≤ number }
     requires high { number < BUILTIN_LEN }
-    ensures { literal_node result ≡ node_in third_types number }
+    ensures { literal_node result ≡ node_in version_3_types number }
 {
     match number {
         REQUEST_1_0 => Literal::Members(&[
@@ -371,7 +373,7 @@ fn header(number: u32) -> Literal
 }
 
 /// The names of an enum.
-pub(crate) fn names_of(alloc: Global, names: &[&[u8]]) -> Result<Vec<Vec<u8>>, AllocError>
+pub(crate) fn copied_names(alloc: Global, names: &[&[u8]]) -> Result<Vec<Vec<u8>>, AllocError>
     ensures { IfOk result (λ v. map (λ n. n.items) v.items ≡ map (λ n. n.now) names.now) }
 {
     let mut all = Vec::new(alloc);
@@ -382,52 +384,65 @@ pub(crate) fn names_of(alloc: Global, names: &[&[u8]]) -> Result<Vec<Vec<u8>>, A
 }
 
 /// The members of a struct.
-fn parts_of(alloc: Global, version: u8, parts: &[Named]) -> Result<Vec<PartEntry>, AllocError>
+fn parts_in_version(
+    alloc: Global,
+    version: u8,
+    parts: &[Named],
+) -> Result<Vec<PartEntry>, AllocError>
     ensures { IfOk result (λ v. map part_view v.items
-        ≡ map (renumbered_part (number_in version)) (map literal_part parts.now)) }
+        ≡ map (renumbered_part (number_in_version version)) (map literal_part parts.now)) }
 {
     let mut all = Vec::new(alloc);
     for part in parts {
-        all.push(part_of(alloc, version, part.0, part.1)?)?;
+        all.push(part_in_version(alloc, version, part.0, part.1)?)?;
     }
     Ok(all)
 }
 
 /// A case with one label.
-fn case_of(alloc: Global, version: u8, case: &Labelled) -> Result<CaseEntry, AllocError>
+fn case_in_version(alloc: Global, version: u8, case: &Labelled) -> Result<CaseEntry, AllocError>
     ensures { IfOk result (λ c. case_view c
-        ≡ renumbered_case (number_in version) (literal_case case.now)) }
+        ≡ renumbered_case (number_in_version version) (literal_case case.now)) }
 {
-    let part = part_of(alloc, version, case.1, case.2)?;
+    let part = part_in_version(alloc, version, case.1, case.2)?;
     let labels = vec![in alloc; Number::Signed(case.0)]?;
     Ok(CaseEntry { labels, part })
 }
 
 /// The cases of a union.
-fn cases_of(alloc: Global, version: u8, cases: &[Labelled]) -> Result<Vec<CaseEntry>, AllocError>
+fn cases_in_version(
+    alloc: Global,
+    version: u8,
+    cases: &[Labelled],
+) -> Result<Vec<CaseEntry>, AllocError>
     ensures { IfOk result (λ v. map case_view v.items
-        ≡ map (renumbered_case (number_in version)) (map literal_case cases.now)) }
+        ≡ map (renumbered_case (number_in_version version)) (map literal_case cases.now)) }
 {
     let mut all = Vec::new(alloc);
     for case in cases {
-        all.push(case_of(alloc, version, case)?)?;
+        all.push(case_in_version(alloc, version, case)?)?;
     }
     Ok(all)
 }
 
 /// A member or a case. Its type is given by the number in version 3.
-fn part_of(alloc: Global, version: u8, name: &[u8], number: u32) -> Result<PartEntry, AllocError>
+fn part_in_version(
+    alloc: Global,
+    file_version: u8,
+    name: &[u8],
+    version_3_type: u32,
+) -> Result<PartEntry, AllocError>
     ensures { IfOk result (λ p. part_view p
-        ≡ record { name = name.now; type = number_in version number }) }
+        ≡ record { name = name.now; type = number_in_version file_version version_3_type }) }
 {
     Ok(PartEntry {
         name: PartName::new(alloc, name)?,
-        type_id: TypeId(number_in(version, number)),
+        type_id: TypeId(number_in_version(file_version, version_3_type)),
     })
 }
 
 /// Kinds of a TypeCode as labels.
-fn kinds_of(alloc: Global, kinds: &[u32]) -> Result<Vec<Number>, AllocError>
+fn kind_labels(alloc: Global, kinds: &[u32]) -> Result<Vec<Number>, AllocError>
     ensures { IfOk result (λ v. v.items ≡ map Number.Unsigned kinds.now) }
 {
     let mut labels = Vec::new(alloc);
@@ -438,29 +453,29 @@ fn kinds_of(alloc: Global, kinds: &[u32]) -> Result<Vec<Number>, AllocError>
 }
 
 /// A case of a TypeCode.
-fn parameters_of(alloc: Global, parameters: &Parameters) -> Result<CaseEntry, AllocError>
+fn parameters_case(alloc: Global, parameters: &Parameters) -> Result<CaseEntry, AllocError>
     ensures { IfOk result (λ c. case_view c ≡ literal_parameters parameters.now) }
 {
-    let part = part_of(alloc, THIRD_VERSION, parameters.1, parameters.2)?;
-    let labels = kinds_of(alloc, parameters.0)?;
+    let part = part_in_version(alloc, THIRD_VERSION, parameters.1, parameters.2)?;
+    let labels = kind_labels(alloc, parameters.0)?;
     Ok(CaseEntry { labels, part })
 }
 
 /// The cases of a TypeCode.
-fn all_parameters_of(alloc: Global, all: &[Parameters]) -> Result<Vec<CaseEntry>, AllocError>
+fn parameters_cases(alloc: Global, all: &[Parameters]) -> Result<Vec<CaseEntry>, AllocError>
     ensures { IfOk result (λ v. map case_view v.items ≡ map literal_parameters all.now) }
 {
     let mut cases = Vec::new(alloc);
     for parameters in all {
-        cases.push(parameters_of(alloc, parameters)?)?;
+        cases.push(parameters_case(alloc, parameters)?)?;
     }
     Ok(cases)
 }
 
 /// The entry of a built-in type in a version.
-fn entry_of(alloc: Global, version: u8, literal: Literal) -> Result<Entry, AllocError>
+fn literal_entry(alloc: Global, version: u8, literal: Literal) -> Result<Entry, AllocError>
     ensures { IfOk result (λ e. node_view e
-        ≡ renumbered (number_in version) (literal_node literal)) }
+        ≡ renumbered (number_in_version version) (literal_node literal)) }
 {
     Ok(match literal {
         Literal::Prim(p) => Entry::Prim(p),
@@ -468,36 +483,45 @@ fn entry_of(alloc: Global, version: u8, literal: Literal) -> Result<Entry, Alloc
         Literal::Octets => Entry::Octets(None),
         Literal::WideText => Entry::WideText,
         Literal::WideChar => Entry::WideChar,
-        Literal::Names(names) => Entry::Enumeration(names_of(alloc, names)?),
-        Literal::Members(parts) => Entry::Members(parts_of(alloc, version, parts)?),
+        Literal::Names(names) => Entry::Enumeration(copied_names(alloc, names)?),
+        Literal::Members(parts) => Entry::Members(parts_in_version(alloc, version, parts)?),
         Literal::Target(switch, cases) => {
-            let cases = UnionCases::new(alloc, cases_of(alloc, version, cases)?)?;
-            Entry::Union(TypeId(number_in(version, switch)), cases, Selected::Refused)
+            let cases = UnionCases::new(alloc, cases_in_version(alloc, version, cases)?)?;
+            Entry::Union(
+                TypeId(number_in_version(version, switch)),
+                cases,
+                Selected::Refused,
+            )
         }
-        Literal::Sequence(element) => Entry::Sequence(None, TypeId(number_in(version, element))),
+        Literal::Sequence(element) => Entry::Sequence(
+            None,
+            TypeId(number_in_version(version, element)),
+        ),
         Literal::Array(count, element) => {
-            Entry::Array(count, TypeId(number_in(version, element)))
+            Entry::Array(count, TypeId(number_in_version(version, element)))
         }
-        Literal::Encapsulation(held) => Entry::Encapsulation(TypeId(number_in(version, held))),
+        Literal::Encapsulation(held) => Entry::Encapsulation(TypeId(number_in_version(
+            version, held,
+        ))),
         Literal::Tagged(special, tag, inner, other) => Entry::Tagged(TagEntry {
             special,
-            tag: part_of(alloc, version, tag.0, tag.1)?,
-            inner: part_of(alloc, version, inner.0, inner.1)?,
-            other: part_of(alloc, version, other.0, other.1)?,
+            tag: part_in_version(alloc, version, tag.0, tag.1)?,
+            inner: part_in_version(alloc, version, inner.0, inner.1)?,
+            other: part_in_version(alloc, version, other.0, other.1)?,
         }),
         Literal::Marked(mark) => Entry::Marked(mark),
         Literal::Any(code) => Entry::Any(TypeId(code)),
         Literal::TypeCode(kind, parameters) => Entry::TypeCode(TypeCodeEntry {
             wide: TypeId(NAMED),
             kind: TypeId(kind),
-            cases: UnionCases::new(alloc, all_parameters_of(alloc, parameters)?)?,
+            cases: UnionCases::new(alloc, parameters_cases(alloc, parameters)?)?,
         }),
     })
 }
 
 /// How many types a file of a version begins with.
-#[tactic(auto, unfolding(crate::specs::AnyTypes::third_types, crate::specs::AnyTypes::any_types, crate::specs::Builtin::builtin_types))]
-fn first_len(version: u8) -> u32
+#[tactic(auto, unfolding(crate::specs::AnyTypes::version_3_types, crate::specs::AnyTypes::any_types, crate::specs::Builtin::builtin_types))]
+fn initial_type_count(version: u8) -> u32
     ensures { result ≡ length (first_types version) }
 {
     if version == THIRD_VERSION {
@@ -508,12 +532,12 @@ fn first_len(version: u8) -> u32
 }
 
 /// The types that a file of a version begins with.
-pub(crate) fn first_list(alloc: Global, version: u8) -> Result<Types, AllocError>
+pub(crate) fn initial_types(alloc: Global, version: u8) -> Result<Types, AllocError>
     ensures { IfOk result (λ types. types ≡ first_types version) }
 {
     let mut types = Types::new(alloc);
-    for number in 0..first_len(version) {
-        let entry = entry_of(alloc, version, literal_in(version, number))?;
+    for number in 0..initial_type_count(version) {
+        let entry = literal_entry(alloc, version, literal_in_version(version, number))?;
         types.add(entry)?;
     }
     Ok(types)

@@ -2,7 +2,7 @@
 ghost use Rattle.std.specs.Prelude.{◌≡◌, ℕ, ◌<◌, ◌≤◌, ◌++◌, List, length, map, true, Some, IfOk, OnOk, slice_get, slice_index_or};
 ghost use Rattle.std.specs.List.{list_any};
 ghost use Rattle.giop_sig.specs.Table.{Case, case_part, case_with, same_number};
-ghost use Rattle.giop_sig.specs.UnionCases.{part_view, case_view, key_of, placed, Rise, AreLabels, AreFound};
+ghost use Rattle.giop_sig.specs.UnionCases.{part_view, case_view, sort_key_of, placed_label, KeysRise, AreLabels, AreLabelsRisingIf};
 
 use crate::entries::{CaseEntry, PartEntry};
 use giop_cdr::Number;
@@ -30,13 +30,14 @@ pub(crate) struct UnionCases {
 impl Model for UnionCases {
     ghost use Rattle.std.specs.Prelude.{List, map};
     ghost use Rattle.giop_sig.specs.Table.{Case};
-    ghost use Rattle.giop_sig.specs.UnionCases.{case_view, AreFound};
+    ghost use Rattle.giop_sig.specs.UnionCases.{case_view, AreLabelsRisingIf};
 
     ghost Value = { List Case };
 
     ghost view = { λ a. map case_view a.cases.items };
 
-    ghost invariant = { λ a. AreFound (map case_view a.cases.items) a.labels.items a.rises };
+    ghost invariant = { λ a. AreLabelsRisingIf
+        (map case_view a.cases.items) a.labels.items a.rises };
 }
 
 impl UnionCases {
@@ -45,8 +46,8 @@ impl UnionCases {
         ensures { IfOk result (λ made. made ≡ map case_view cases.items) }
     {
         let mut labels = labels_of(alloc, &cases)?;
-        labels.sort_unstable_by_key(|label| key_of(label.number));
-        let rises = rise(&labels);
+        labels.sort_unstable_by_key(|label| sort_key_of(label.number));
+        let rises = keys_rise(&labels);
         Ok(UnionCases {
             cases,
             labels,
@@ -79,9 +80,9 @@ impl UnionCases {
         ensures { result ≡ case_with number self.now }
     {
         let found = if self.rises {
-            searched(&self.labels, number)
+            case_by_search(&self.labels, number)
         } else {
-            case_of(&self.cases, number)
+            first_case_with(&self.cases, number)
         };
         match found {
             None => None,
@@ -91,8 +92,8 @@ impl UnionCases {
 }
 
 /// The key by which labels are sorted. Different values of one type have different keys.
-fn key_of(number: Number) -> u64
-    ensures { result ≡ key_of number }
+fn sort_key_of(number: Number) -> u64
+    ensures { result ≡ sort_key_of number }
 {
     match number {
         Number::Unsigned(n) => n,
@@ -110,7 +111,7 @@ fn add_labels(
     index: usize,
 ) -> Result<(), AllocError>
     ensures { OnOk result
-        (labels.new.items ≡ labels.old.items ++ map (placed index) numbers.now) }
+        (labels.new.items ≡ labels.old.items ++ map (placed_label index) numbers.now) }
 {
     for number in numbers {
         labels.push(PlacedLabel {
@@ -133,11 +134,11 @@ fn labels_of(alloc: Global, cases: &[CaseEntry]) -> Result<Vec<PlacedLabel>, All
 }
 
 /// Whether each label has a greater key than the label before it.
-fn rise(labels: &[PlacedLabel]) -> bool
-    ensures { result ≡ true → Rise labels.now }
+fn keys_rise(labels: &[PlacedLabel]) -> bool
+    ensures { result ≡ true → KeysRise labels.now }
 {
     for index in 1..labels.len() {
-        if key_of(labels[index].number) <= key_of(labels[index - 1].number) {
+        if sort_key_of(labels[index].number) <= sort_key_of(labels[index - 1].number) {
             return false;
         }
     }
@@ -145,15 +146,15 @@ fn rise(labels: &[PlacedLabel]) -> bool
 }
 
 /// The index of the first label whose key isn't less than `key`.
-fn first_from(labels: &[PlacedLabel], key: u64) -> usize
-    requires { Rise labels.now }
+fn first_not_below(labels: &[PlacedLabel], key: u64) -> usize
+    requires { KeysRise labels.now }
     ensures bound { result ≤ length labels.now }
     ensures below { (i : ℕ) (d : PlacedLabel) → i < result
-        → key_of (slice_index_or labels.now i d).number < key }
+        → sort_key_of (slice_index_or labels.now i d).number < key }
     ensures above { (i : ℕ) (d : PlacedLabel) → result ≤ i → i < length labels.now
-        → key ≤ key_of (slice_index_or labels.now i d).number }
+        → key ≤ sort_key_of (slice_index_or labels.now i d).number }
 {
-    labels.partition_point(|label| key_of(label.number) < key)
+    labels.partition_point(|label| sort_key_of(label.number) < key)
 }
 
 /// Whether two numbers are the same value of the same type.
@@ -164,12 +165,12 @@ fn is_same(one: Number, other: Number) -> bool
 }
 
 /// The case of a number, found in the list of its union's labels.
-fn searched(labels: &[PlacedLabel], number: Number) -> Option<usize>
-    requires { Rise labels.now }
+fn case_by_search(labels: &[PlacedLabel], number: Number) -> Option<usize>
+    requires { KeysRise labels.now }
     ensures { (cases : List Case) → AreLabels cases labels.now
         → result ≡ case_with number cases }
 {
-    let at = first_from(labels, key_of(number));
+    let at = first_not_below(labels, sort_key_of(number));
     if at < labels.len() && is_same(labels[at].number, number) {
         Some(labels[at].index)
     } else {
@@ -185,7 +186,7 @@ fn has_label(labels: &[Number], number: Number) -> bool
 }
 
 /// The first case with this number among its labels, in whatever order the labels are.
-fn case_of(cases: &[CaseEntry], number: Number) -> Option<usize>
+fn first_case_with(cases: &[CaseEntry], number: Number) -> Option<usize>
     ensures { result ≡ case_with number (map case_view cases.now) }
 {
     cases

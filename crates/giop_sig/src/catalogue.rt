@@ -2,14 +2,14 @@
 //! exceptions by name.
 ghost use Rattle.std.specs.Prelude.{◌≡◌, ℕ, suc, ◌+◌, ◌^◌, ◌<◌, ◌≤◌, ◌++◌, ◌↔◌, List, false, codes, drop, nat_le, length, IsTrue, IfSome, IfOk, IfErr, OnOk, OnErr, None, MatchOption};
 ghost use Rattle.std.specs.Option.{option_map};
-ghost use Rattle.giop_sig.specs.Types.{sequel, depth, part_of, name_in, enum_name_in, switch_of, select_in, interpreted_in, shape_in, HasShape, HasMember, HasIndex, HasInner, IsUnion};
+ghost use Rattle.giop_sig.specs.Types.{sequel, depth, part_of, name_in, enum_name_in, switch_of, select_in, interpreted_in, shape_in, HasShape, HasMember, HasIndex, HasSmallerPart, IsUnion};
 ghost use Rattle.giop_sig.specs.Fits.{IsFit, IsRoot};
 ghost use Rattle.giop_sig.specs.Interfaces.{IsInterfaceOf};
-ghost use Rattle.giop_sig.specs.Table.{node_at, shape_of, part_number, part_at, name_of, name_at, switch_at, selected, op_id, operation_key, keyed_number, operation_in, operation_for, interface_in, has_keys, named_interface, interface_name, operation_at, exception_in, identified_in, IsFormed, with_type, with_declared, with_operation, with_exception};
-ghost use Rattle.giop_sig.specs.Trees.{tree, tree_at, grow, catalogue_depth, depth_in, part_number_in, wide_in};
-ghost use Rattle.giop_sig.specs.HeaderTypes.{header_number, header_type, fixed_number, fixed_type, IdStandsFirst, BeginsWithId, IsTable};
+ghost use Rattle.giop_sig.specs.Table.{node_at, shape_of, part_number, part_at, name_of, name_at, switch_at, selected, op_id, operation_key, operation_number_of_key, operation_in, operation_for, interface_in, has_keys, named_interface, interface_name, operation_at, exception_in, identified_in, IsFormed, with_type, with_type_counted, with_operation, with_exception};
+ghost use Rattle.giop_sig.specs.Trees.{tree, tree_at, tree_of_node, catalogue_depth, depth_in, part_number_in, has_wide_text};
+ghost use Rattle.giop_sig.specs.HeaderTypes.{header_type_number, header_type, fixed_type_number, fixed_type, RequestIdStandsFirst, BeginsWithId, IsTable};
 
-use crate::builtin::first_list;
+use crate::builtin::initial_types;
 use crate::draft::THIRD_VERSION;
 use crate::entries::{Entry, Types};
 use crate::fronts::{Front, first_fronts};
@@ -83,14 +83,14 @@ impl Model for Catalogue {
 impl Catalogue {
     ghost use Rattle.giop_sig.specs.Builtin.{builtin_table};
     ghost use Rattle.giop_tokens.specs.Faults.{no_memory};
-    ghost use Rattle.giop_sig.specs.Views.{node_view, IsSized};
+    ghost use Rattle.giop_sig.specs.Views.{node_view, HasCountableParts};
 
     /// The catalogue without declarations: the built-in types alone. Refused only for memory.
     pub fn builtin(alloc: Global) -> Result<Catalogue, SigFault>
         ensures ok { IfOk result (λ catalogue. catalogue ≡ builtin_table) }
         ensures err { IfErr result (λ fault. fault ≡ no_memory) }
     {
-        let types = first_list(alloc, FIRST_VERSION)?;
+        let types = initial_types(alloc, FIRST_VERSION)?;
         let fronts = first_fronts(alloc)?;
         Ok(Catalogue {
             version: FIRST_VERSION,
@@ -181,7 +181,7 @@ impl Catalogue {
         requires led { shape_in (tree self.now t.0) ≡ Shape.Led → index ≤ length self.now.types }
         ensures number { result.0 ≡ part_number self.now t.0 index }
         ensures known { result.0 < length self.now.types }
-        ensures below { HasInner (shape_in (tree self.now t.0)) index → result.0 < t.0 }
+        ensures below { HasSmallerPart (shape_in (tree self.now t.0)) index → result.0 < t.0 }
         // A part has one level of room less than its whole. Only the parts of a union may differ
         // with the room.
         ensures rooms { (IsUnion (shape_in (tree self.now t.0)) → ⊥) → (n : ℕ) →
@@ -262,22 +262,23 @@ impl Catalogue {
 
     /// The header type for a minor version of GIOP and the number of a message type. None if such a
     /// message has no header type, or if there is no such version or type.
-    pub fn header(&self, minor: u8, kind: u8) -> Option<TypeId>
-        ensures number { option_map (λ t. t.0) result ≡ header_number self.now.version minor kind }
+    pub fn header(&self, minor: u8, message_type: u8) -> Option<TypeId>
+        ensures number { option_map (λ t. t.0) result
+            ≡ header_type_number self.now.version minor message_type }
         ensures known { IfSome result (λ t. t.0 < length self.now.types) }
         ensures tree { option_map (λ t. tree self.now t.0) result
-            ≡ header_type self.now.version minor kind }
+            ≡ header_type self.now.version minor message_type }
         ensures fit { IfSome result (λ t. IsFit 24 (tree self.now t.0)) }
         // A reader that knows no types finds the request id first.
-        ensures id { IdStandsFirst minor kind
+        ensures id { RequestIdStandsFirst minor message_type
             → IfSome result (λ t. BeginsWithId (tree self.now t.0)) }
     {
-        self.seen(false).header(minor, kind)
+        self.seen(false).header(minor, message_type)
     }
 
     /// The type of a body that signature files don't declare.
     pub fn fixed(&self, fixed: Fixed) -> TypeId
-        ensures number { result.0 ≡ fixed_number self.now.version fixed }
+        ensures number { result.0 ≡ fixed_type_number self.now.version fixed }
         ensures known { result.0 < length self.now.types }
         ensures tree { tree self.now result.0 ≡ fixed_type self.now.version fixed }
         ensures fit { IsFit 24 (tree self.now result.0) }
@@ -291,7 +292,7 @@ impl Catalogue {
         ensures is { result ≡ operation_in self.now name.now }
         ensures known { IfSome result (λ o. o.0 < length self.now.operations) }
     {
-        self.keyed(0, name)
+        self.operation_in_interface(0, name)
     }
 
     /// The operation of a name in an interface: the one that has the interface in its list, or else
@@ -304,7 +305,7 @@ impl Catalogue {
         self.laws();
         match interface {
             None => self.operation(name),
-            Some(interface) => match self.keyed(interface.0 + 1, name) {
+            Some(interface) => match self.operation_in_interface(interface.0 + 1, name) {
                 Some(operation) => Some(operation),
                 None => self.operation(name),
             },
@@ -313,17 +314,17 @@ impl Catalogue {
 
     /// The operation of a name in the interface with this number, from 1, or in no interface if it
     /// is 0.
-    fn keyed(&self, interface: u32, name: &[u8]) -> Option<OpId>
+    fn operation_in_interface(&self, interface: u32, name: &[u8]) -> Option<OpId>
         requires { interface ≤ 1024 }
         ensures is { result ≡ option_map op_id
-            (keyed_number self.now (operation_key interface name.now)) }
+            (operation_number_of_key self.now (operation_key interface name.now)) }
         ensures known { IfSome result (λ o. o.0 < length self.now.operations) }
     {
         let operations = &self.operations;
         if name.len() > 128 {
             return None;
         }
-        let index = operations.get_index_of(&call_key(interface, name))?;
+        let index = operations.get_index_of(&operation_key(interface, name))?;
         Some(OpId(index as u32))
     }
 
@@ -390,7 +391,7 @@ impl Catalogue {
         ensures known { IfSome result (λ t. t.0 < length self.now.types) }
     {
         let exceptions = &self.exceptions;
-        let key = key_of(repository)?;
+        let key = name_if_short(repository)?;
         let found = exceptions.get_full(&key)?;
         Some(*found.2)
     }
@@ -402,7 +403,7 @@ impl Catalogue {
         ensures known { IfSome result (λ t. t.0 < length self.now.types) }
     {
         let identities = &self.identities;
-        let key = key_of(repository)?;
+        let key = name_if_short(repository)?;
         let identity = identities.get_full(&key)?;
         Some(*identity.2)
     }
@@ -436,9 +437,9 @@ impl Catalogue {
     /// one. What an any carries doesn't count.
     pub fn has_wide_text(&self, t: TypeId) -> bool
         requires { t.0 < length self.now.types }
-        ensures { result ≡ wide_in self.now.types t.0 }
+        ensures { result ≡ has_wide_text self.now.types t.0 }
     {
-        self.types.is_wide(t)
+        self.types.has_wide_text(t)
     }
 
     /// The depth of a type.
@@ -467,7 +468,7 @@ impl Catalogue {
     pub(crate) fn entry(&self, t: TypeId) -> &Entry
         requires { t.0 < length self.now.types }
         ensures node { node_view result.now ≡ node_at self.now t.0 }
-        ensures sized { IsSized result.now }
+        ensures sized { HasCountableParts result.now }
     {
         self.types.entry(t)
     }
@@ -489,7 +490,7 @@ impl Catalogue {
 
 /// The key of an operation's name in the interface with this number, from 1, or in no interface if
 /// it is 0.
-pub(crate) fn call_key(interface: u32, name: &[u8]) -> CallKey
+pub(crate) fn operation_key(interface: u32, name: &[u8]) -> CallKey
     requires short { length name.now ≤ 128 }
     requires few { interface ≤ 1024 }
     ensures { result.items ≡ operation_key interface name.now }
@@ -502,7 +503,7 @@ pub(crate) fn call_key(interface: u32, name: &[u8]) -> CallKey
 }
 
 /// The key of a name. None if it has more than 128 octets.
-fn key_of(name: &[u8]) -> Option<Name>
+fn name_if_short(name: &[u8]) -> Option<Name>
     ensures { MatchOption result (128 < length name.now) (λ key. key.items ≡ name.now) }
 {
     ArrayVec::try_from(name).ok()

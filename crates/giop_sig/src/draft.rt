@@ -7,20 +7,20 @@ ghost use Rattle.std.specs.Str.{bytes_eq};
 ghost use Rattle.giop_cdr.specs.declared.prim.Primitive.TheVariants as prims;
 ghost use Rattle.std.specs.List.{list_any};
 ghost use Rattle.giop_sig.specs.Interfaces.{with_interface, of_text};
-ghost use Rattle.giop_sig.specs.Table.{IsFormed, node_at, prim, operation_key, keyed_number, exception_in, identified_in, with_identity, with_called, with_entry, with_exception};
+ghost use Rattle.giop_sig.specs.Table.{IsFormed, node_at, prim, operation_key, operation_number_of_key, exception_in, identified_in, with_identity, with_operation_counted, with_keyed_operation, with_exception};
 ghost use Rattle.giop_sig.specs.HeaderTypes.{IsAddable};
-ghost use Rattle.giop_sig.specs.Trees.{AreSettled, depth_in, depth_of};
-ghost use Rattle.giop_sig.specs.Scopes.{type_named, add_announced_type, announced_as, announced_index, settled, targets, with_announced, first_scope, has_encapsulations, is_third, reference_number, named, with_node, with_name, with_named, with_identified, with_id_fronts, with_sequence, with_raised, with_key_of};
-ghost use Rattle.giop_sig.specs.FileReading.{announcements};
-ghost use Rattle.giop_sig.specs.RequestList.{flat};
-ghost use Rattle.giop_sig.specs.ScopeViews.{announcement_view, key_is, number_of_id, IsDraft, IsKnown, IsKnownType, IsNewIdentity};
+ghost use Rattle.giop_sig.specs.Trees.{AreResolved, depth_in, depth_of};
+ghost use Rattle.giop_sig.specs.Scopes.{type_named, add_announced_type, announced_as, announced_index, settled, types_of_announced, with_announced, first_scope, has_encapsulations, is_version_3, reference_number, named, with_node, with_name, with_named, with_identified, with_id_fronts, with_sequence, with_raised, with_key_of};
+ghost use Rattle.giop_sig.specs.FileReading.{announcement_count};
+ghost use Rattle.giop_sig.specs.RequestList.{option_flatten};
+ghost use Rattle.giop_sig.specs.ScopeViews.{announcement_view, same_key_octets, number_of_id, IsDraft, IsKnown, IsKnownType, IsNewIdentity};
 ghost use Rattle.giop_sig.specs.Outcomes.{Gives};
-ghost use Rattle.giop_sig.specs.Validity.{is_taken};
-ghost use Rattle.giop_sig.specs.Views.{node_view, IsSized};
+ghost use Rattle.giop_sig.specs.Validity.{is_name_taken};
+ghost use Rattle.giop_sig.specs.Views.{node_view, HasCountableParts};
 
-use crate::announced::{Announcement, TypeWord, can_declare};
-use crate::builtin::{first_list, number_in};
-use crate::catalogue::{CallKey, Catalogue, Name, Signature, call_key};
+use crate::announced::{Announcement, TypeWord, matches_announcement};
+use crate::builtin::{initial_types, number_in_version};
+use crate::catalogue::{CallKey, Catalogue, Name, Signature, operation_key};
 use crate::entries::{Entry, Types};
 use crate::fronts::{Front, add_fronts, first_fronts};
 use crate::interfaces::InterfaceTable;
@@ -90,7 +90,8 @@ fn declared_types(
     announced: &IndexMap<Key, Announcement>,
 ) -> Result<Vec<Option<TypeId>>, ParseError>
     ensures ok { IfOk result (λ ts. ts.items
-        ≡ map (λ e. flat (lookup (key_is e.0) names.now.entries)) announced.now.entries) }
+        ≡ map (λ e. option_flatten (lookup (same_key_octets e.0) names.now.entries))
+        announced.now.entries) }
     ensures err { IfErr result (λ stop. stop ≡ ParseError.Memory) }
 {
     let mut types = Vec::new(alloc);
@@ -102,7 +103,7 @@ fn declared_types(
 
 /// The type of a name, if it is declared.
 fn declared_type(names: &IndexMap<Key, Option<TypeId>>, key: &Key) -> Option<TypeId>
-    ensures { result ≡ flat (lookup (key_is key.now) names.now.entries) }
+    ensures { result ≡ option_flatten (lookup (same_key_octets key.now) names.now.entries) }
 {
     *names.get(key)?
 }
@@ -113,7 +114,7 @@ impl Draft {
         ensures ok { IfOk result (λ draft. draft ≡ first_scope version) }
         ensures err { IfErr result (λ stop. stop ≡ ParseError.Memory) }
     {
-        let types = first_list(alloc, version)?;
+        let types = initial_types(alloc, version)?;
         let fronts = first_fronts(alloc)?;
         Ok(Draft {
             version,
@@ -146,21 +147,21 @@ impl Draft {
     }
 
     /// Whether the file is of version 3, which has more reserved words.
-    pub(crate) fn is_third(&self) -> bool
-        ensures { result ≡ is_third self.now.names }
+    pub(crate) fn is_version_3(&self) -> bool
+        ensures { result ≡ is_version_3 self.now.names }
     {
         self.version == THIRD_VERSION
     }
 
     /// The type of an object reference. The tags of its profiles have names in version 3 only.
-    pub(crate) fn reference(&self) -> TypeId
+    pub(crate) fn reference_type(&self) -> TypeId
         ensures { result.0 ≡ reference_number self.now.names }
     {
-        TypeId(number_in(self.version, IOR))
+        TypeId(number_in_version(self.version, IOR))
     }
 
     /// The type of an enum, struct or union of this name.
-    fn declared(&self, name: &[u8]) -> Option<TypeId>
+    fn type_declared_as(&self, name: &[u8]) -> Option<TypeId>
         requires { length name.now ≤ 64 }
         ensures { option_map (λ t. t.0) result ≡ named self.now.names name.now }
     {
@@ -175,7 +176,7 @@ impl Draft {
         requires { length name.now ≤ 64 }
         ensures { option_map (λ t. t.0) result ≡ type_named element self.now.names name.now }
     {
-        match self.declared(name) {
+        match self.type_declared_as(name) {
             Some(t) => Some(t),
             None if element => Some(self.announced_as(name)?.type_id),
             None => None,
@@ -183,11 +184,11 @@ impl Draft {
     }
 
     /// Whether a name is declared, or is announced with another word.
-    pub(crate) fn is_taken(&self, word: Option<TypeWord>, name: &[u8]) -> bool
+    pub(crate) fn is_name_taken(&self, word: Option<TypeWord>, name: &[u8]) -> bool
         requires { length name.now ≤ 64 }
-        ensures { result ≡ is_taken self.now.names word name.now }
+        ensures { result ≡ is_name_taken self.now.names word name.now }
     {
-        self.is_declared(name) || !can_declare(word, self.announced_as(name))
+        self.is_declared(name) || !matches_announcement(word, self.announced_as(name))
     }
 
     /// Whether a name is declared, be it that of an exception.
@@ -211,8 +212,8 @@ impl Draft {
     }
 
     /// How many names are announced.
-    pub(crate) fn announcements(&self) -> usize
-        ensures { result ≡ announcements self.now }
+    pub(crate) fn announcement_count(&self) -> usize
+        ensures { result ≡ announcement_count self.now }
     {
         // They are read so that the prover knows what is true of each map of names.
         let _names = &self.names;
@@ -248,7 +249,7 @@ impl Draft {
     }
 
     /// The greatest depth of a type.
-    pub(crate) fn depth(&self) -> u32
+    pub(crate) fn deepest(&self) -> u32
         ensures { result ≡ depth_of self.now.table.types }
     {
         // They are read so that the prover knows what is true of each map of names.
@@ -259,7 +260,7 @@ impl Draft {
     /// The entry of a type. None if no type has this number.
     pub(crate) fn entry(&self, t: TypeId) -> Option<&Entry>
         ensures some { IfSome result (λ entry. node_view entry.now ≡ node_at self.now.table t.0) }
-        ensures sized { IfSome result (λ entry. IsSized entry.now) }
+        ensures sized { IfSome result (λ entry. HasCountableParts entry.now) }
         ensures none { IfNone result (node_at self.now.table t.0 ≡ prim prims.Octet) }
     {
         // They are read so that the prover knows what is true of each map of names.
@@ -325,12 +326,12 @@ impl Draft {
     pub(crate) fn has_operation(&self, interface: u32, name: &[u8]) -> bool
         requires short { length name.now ≤ 128 }
         requires few { interface ≤ 1024 }
-        ensures { result ≡ is_some (keyed_number self.now.table
+        ensures { result ≡ is_some (operation_number_of_key self.now.table
             (operation_key interface name.now)) }
     {
         // They are read so that the prover knows what is true of each map of names.
         let _names = &self.names;
-        let key = call_key(interface, name);
+        let key = operation_key(interface, name);
         self.operations.get_index_of(&key).is_some()
     }
 
@@ -385,7 +386,7 @@ impl Draft {
     {
         // They are read so that the prover knows what is true of each map of names.
         let _names = &self.names;
-        let kind = self.types.entry(t).kind();
+        let kind = self.types.entry(t).typecode_kind();
         add_fronts(&mut self.fronts, kind, id)?;
         Ok(())
     }
@@ -415,7 +416,7 @@ impl Draft {
     }
 
     /// Adds the repository id of a type, if it has one.
-    fn identify(&mut self, id: Option<&[u8]>, t: TypeId) -> Result<(), ParseError>
+    fn add_identity_if_any(&mut self, id: Option<&[u8]>, t: TypeId) -> Result<(), ParseError>
         requires identity { IsNewIdentity self.old.table (option_map (λ x. x.now) id) }
         requires known { IsKnown self.old.table.types t.0 }
         ensures added { OnOk result (self.new ≡ record (self.old) {
@@ -435,7 +436,7 @@ impl Draft {
 
     /// Declares an enum, struct or union with a new name, and with a new repository id if it has
     /// one.
-    pub(crate) fn name_type(
+    pub(crate) fn declare_type(
         &mut self,
         name: &[u8],
         id: Option<&[u8]>,
@@ -451,7 +452,7 @@ impl Draft {
         ensures err { IfErr result (λ stop. stop ≡ ParseError.Memory) }
     {
         self.add_name(name, Some(t))?;
-        self.identify(id, t)?;
+        self.add_identity_if_any(id, t)?;
         self.declared += 1;
         Ok(())
     }
@@ -476,7 +477,7 @@ impl Draft {
     }
 
     /// Declares an exception with a new name and a new repository id.
-    pub(crate) fn raise(
+    pub(crate) fn declare_exception(
         &mut self,
         name: &[u8],
         repository: &[u8],
@@ -505,11 +506,12 @@ impl Draft {
     ) -> Result<(), ParseError>
         requires short { length name.now ≤ 128 }
         requires few { interface ≤ 1024 }
-        requires new { keyed_number self.old.table (operation_key interface name.now) ≡ None }
+        requires new { operation_number_of_key self.old.table (operation_key interface name.now)
+            ≡ None }
         requires request { signature.request.0 < length self.old.table.types }
         requires reply { signature.reply.0 < length self.old.table.types }
         ensures added { OnOk result (self.new ≡ record (self.old) {
-          table = with_entry interface name.now signature.request.0 signature.reply.0
+          table = with_keyed_operation interface name.now signature.request.0 signature.reply.0
               self.old.table;
         }) }
         ensures err { IfErr result (λ stop. stop ≡ ParseError.Memory) }
@@ -519,7 +521,7 @@ impl Draft {
         if self.operations.len() >= u32::MAX as usize {
             return Err(ParseError::Memory);
         }
-        let key = call_key(interface, name);
+        let key = operation_key(interface, name);
         self.operations.insert(key, signature)?;
         Ok(())
     }
@@ -559,7 +561,7 @@ impl Draft {
     /// Counts an operation.
     pub(crate) fn count_operation(&mut self)
         requires { self.old.table.called < 4096 }
-        ensures { self.new ≡ record (self.old) { table = with_called self.old.table } }
+        ensures { self.new ≡ record (self.old) { table = with_operation_counted self.old.table } }
     {
         // They are read so that the prover knows what is true of each map of names.
         let _names = &self.names;
@@ -570,14 +572,14 @@ impl Draft {
     pub(crate) fn announce(&mut self, name: &[u8], word: TypeWord) -> Result<(), ParseError>
         requires short { length name.now ≤ 64 }
         requires new { announced_as self.old.names name.now ≡ None }
-        requires third { is_third self.old.names ≡ true }
+        requires third { is_version_3 self.old.names ≡ true }
         ensures added { OnOk result (self.new
             ≡ with_announced word name.now (add_announced_type self.old)) }
         ensures err { IfErr result (λ stop. stop ≡ ParseError.Memory) }
     {
         // They are read so that the prover knows what is true of each map of names.
         let _names = &self.names;
-        let index = self.announcements();
+        let index = self.announcement_count();
         if index >= u32::MAX as usize {
             return Err(ParseError::Memory);
         }
@@ -588,28 +590,32 @@ impl Draft {
     }
 
     /// The types that were declared for the announced names, in order.
-    pub(crate) fn targets(&self, alloc: Global) -> Result<Vec<Option<TypeId>>, ParseError>
-        ensures ok { IfOk result (λ ts. map number_of_id ts.items ≡ targets self.now.names) }
+    pub(crate) fn types_of_announced(
+        &self,
+        alloc: Global,
+    ) -> Result<Vec<Option<TypeId>>, ParseError>
+        ensures ok { IfOk result (λ ts. map number_of_id ts.items
+            ≡ types_of_announced self.now.names) }
         ensures err { IfErr result (λ stop. stop ≡ ParseError.Memory) }
     {
         declared_types(alloc, &self.names, &self.announced)
     }
 
     /// Gives each recursive sequence the type that was declared for its announcement.
-    pub(crate) fn settle(&mut self, types: &[Option<TypeId>])
-        requires { map number_of_id types.now ≡ targets self.old.names }
+    pub(crate) fn resolve_sequences(&mut self, types: &[Option<TypeId>])
+        requires { map number_of_id types.now ≡ types_of_announced self.old.names }
         ensures is { self.new ≡ settled self.old }
-        ensures complete { AreSettled self.new.table.types }
+        ensures complete { AreResolved self.new.table.types }
     {
         // They are read so that the prover knows what is true of each map of names.
         let _names = &self.names;
-        self.types.settle(types);
+        self.types.resolve_sequences(types);
     }
 
     /// The catalogue. No type is too deep, and each recursive sequence has its type.
     pub(crate) fn into_catalogue(self) -> Catalogue
         requires shallow { depth_of self.table.types ≤ 24 }
-        requires settled { AreSettled self.table.types }
+        requires settled { AreResolved self.table.types }
         ensures { result ≡ self.table }
     {
         Catalogue {

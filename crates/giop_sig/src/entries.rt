@@ -2,14 +2,14 @@
 ghost use Rattle.std.specs.Prelude.{◌≡◌, ℕ, ◌+◌, ◌^◌, ◌<◌, ◌≤◌, ◌++◌, ◌∷◌, [], length, map, Some, IfOk, OnOk, OnErr, max};
 ghost use Rattle.std.specs.Option.{option_map};
 ghost use Rattle.giop_sig.specs.Types.{most, HasIndex, HasMember, IsUnion};
-ghost use Rattle.giop_sig.specs.Heard.{has_count, is_sequence_of, kind_of, of_kind};
+ghost use Rattle.giop_sig.specs.Heard.{has_count, is_sequence_of, typecode_kind, inferred_by_id_kind};
 ghost use Rattle.giop_sig.specs.Hearings.{signal_of};
 ghost use Rattle.giop_sig.specs.Table.{takes_octet, node_in, IsFormed, shape_of, part_at, type_of, name_of, name_at, switch_at, selected};
-ghost use Rattle.giop_sig.specs.Trees.{in_room, depth_in, depth_of, node_depth, part_depth, some_of, wide_in, node_wide, part_wide, AreFormed};
+ghost use Rattle.giop_sig.specs.Trees.{node_in_room, depth_in, depth_of, node_depth, part_depth, any_below, has_wide_text, node_has_wide_text, part_has_wide_text, AreFormed};
 ghost use Rattle.giop_sig.specs.UnionCases.{part_view};
-ghost use Rattle.giop_sig.specs.Settling.{target_of, settled_entry};
+ghost use Rattle.giop_sig.specs.Settling.{declared_type_id_at, resolved_entry};
 ghost use Rattle.giop_sig.specs.ScopeViews.{number_of_id};
-ghost use Rattle.giop_sig.specs.Scopes.{settled_node};
+ghost use Rattle.giop_sig.specs.Scopes.{resolved_node};
 
 use crate::cases::UnionCases;
 use crate::fronts::{ENUM_KIND, STRUCT_KIND, UNION_KIND};
@@ -152,7 +152,7 @@ impl TypeCodeEntry {
     /// The type of the case at an index, if it has this room.
     fn part_in(&self, index: u32, room: u8) -> TypeId
         requires { index < length self.now.cases }
-        ensures { result.0 ≡ type_of (part_at (in_room room (code_view self.now)) index) }
+        ensures { result.0 ≡ type_of (part_at (node_in_room room (code_view self.now)) index) }
     {
         if room < WIDE_ROOM {
             self.narrow_part(index)
@@ -163,12 +163,12 @@ impl TypeCodeEntry {
 }
 
 impl Entry {
-    ghost use Rattle.giop_sig.specs.Views.{node_view, IsSized};
+    ghost use Rattle.giop_sig.specs.Views.{node_view, HasCountableParts};
 
     /// The outermost form of the type.
     #[inline(always)]
     pub(crate) fn shape(&self) -> Shape
-        requires { IsSized self.now }
+        requires { HasCountableParts self.now }
         ensures { result ≡ shape_of (node_view self.now) }
     {
         match self {
@@ -216,7 +216,7 @@ impl Entry {
     /// The type of the part at an index, if it has this room.
     pub(crate) fn part_in(&self, index: u32, room: u8) -> TypeId
         requires { HasIndex (shape_of (node_view self.now)) index }
-        ensures { result.0 ≡ type_of (part_at (in_room room (node_view self.now)) index) }
+        ensures { result.0 ≡ type_of (part_at (node_in_room room (node_view self.now)) index) }
     {
         match self {
             Entry::TypeCode(code) => code.part_in(index, room),
@@ -225,8 +225,8 @@ impl Entry {
     }
 
     /// What a repository id of the type tells after the octet of a kind.
-    pub(crate) fn told_as(&self, kind: u8, t: TypeId) -> Signal
-        ensures { result ≡ signal_of (of_kind kind t.0 (node_view self.now)) }
+    pub(crate) fn inferred_by_id_kind(&self, kind: u8, t: TypeId) -> Signal
+        ensures { result ≡ signal_of (inferred_by_id_kind kind t.0 (node_view self.now)) }
     {
         match self {
             Entry::Members(_) if kind == STRUCT_KIND => Signal::Offers(t.0),
@@ -237,8 +237,8 @@ impl Entry {
     }
 
     /// The kind of the type, if it is a struct, a union or an enum.
-    pub(crate) fn kind(&self) -> u8
-        ensures { result ≡ kind_of (node_view self.now) }
+    pub(crate) fn typecode_kind(&self) -> u8
+        ensures { result ≡ typecode_kind (node_view self.now) }
     {
         match self {
             Entry::Union(_, _, _) => UNION_KIND,
@@ -323,7 +323,7 @@ impl Entry {
 
     /// What the value of a discriminator or a tag selects.
     pub(crate) fn select(&self, number: Number) -> Selected
-        requires { IsSized self.now }
+        requires { HasCountableParts self.now }
         ensures { result ≡ selected (node_view self.now) number }
     {
         match self {
@@ -360,18 +360,18 @@ pub(crate) struct Types {
 impl Model for Types {
     ghost use Rattle.std.specs.Prelude.{List};
     ghost use Rattle.giop_sig.specs.Table.{Node};
-    ghost use Rattle.giop_sig.specs.Views.{nodes_view, IsKept};
+    ghost use Rattle.giop_sig.specs.Views.{nodes_view, AreDepthsKept};
 
     ghost Value = { List Node };
 
     ghost view = { λ a. nodes_view a.placed.items };
 
-    ghost invariant = { λ a. IsKept a.placed.items a.deepest };
+    ghost invariant = { λ a. AreDepthsKept a.placed.items a.deepest };
 }
 
 /// The type that was declared for the announcement at an index.
-fn target(targets: &[Option<TypeId>], index: TypeId) -> TypeId
-    ensures { result ≡ target_of targets.now index }
+fn declared_type_id_at(targets: &[Option<TypeId>], index: TypeId) -> TypeId
+    ensures { result ≡ declared_type_id_at targets.now index }
 {
     match targets.get(index.0 as usize) {
         Some(Some(t)) => *t,
@@ -380,25 +380,25 @@ fn target(targets: &[Option<TypeId>], index: TypeId) -> TypeId
 }
 
 /// Gives a recursive sequence the type that was declared for its announcement.
-fn settle_one(placed: &mut EntryWithDepth, targets: &[Option<TypeId>])
-    ensures { placed.new ≡ settled_entry targets.now placed.old }
+fn resolve_entry(placed: &mut EntryWithDepth, targets: &[Option<TypeId>])
+    ensures { placed.new ≡ resolved_entry targets.now placed.old }
 {
     if let Entry::Recursive(_, element) = &mut placed.entry {
-        *element = target(targets, *element);
+        *element = declared_type_id_at(targets, *element);
     }
 }
 
 /// Gives each recursive sequence of a list its type.
-fn settle_each(placed: &mut Vec<EntryWithDepth>, targets: &[Option<TypeId>])
-    ensures { placed.new.items ≡ map (settled_entry targets.now) placed.old.items }
+fn resolve_entries(placed: &mut Vec<EntryWithDepth>, targets: &[Option<TypeId>])
+    ensures { placed.new.items ≡ map (resolved_entry targets.now) placed.old.items }
 {
     for one in placed.iter_mut() {
-        settle_one(one, targets);
+        resolve_entry(one, targets);
     }
 }
 
 impl Types {
-    ghost use Rattle.giop_sig.specs.Views.{node_view, nodes_view, IsSized};
+    ghost use Rattle.giop_sig.specs.Views.{node_view, nodes_view, HasCountableParts};
 
     /// No types.
     pub(crate) fn new(alloc: Global) -> Types
@@ -439,7 +439,7 @@ impl Types {
         requires { t.0 < length self.now }
         ensures node { node_view result.now ≡ node_in self.now t.0 }
         ensures formed { IsFormed self.now t.0 (node_view result.now) }
-        ensures sized { IsSized result.now }
+        ensures sized { HasCountableParts result.now }
     {
         &self.placed[t.0 as usize].entry
     }
@@ -454,9 +454,9 @@ impl Types {
     }
 
     /// Whether a type has wide text.
-    pub(crate) fn is_wide(&self, t: TypeId) -> bool
+    pub(crate) fn has_wide_text(&self, t: TypeId) -> bool
         requires { t.0 < length self.now }
-        ensures { result ≡ wide_in self.now t.0 }
+        ensures { result ≡ has_wide_text self.now t.0 }
     {
         self.placed[t.0 as usize].wide
     }
@@ -470,7 +470,7 @@ impl Types {
 
     /// The depth that the type of an entry would have: 1 for a leaf, 2 for a recursive sequence,
     /// and for any other 1 more than its deepest part.
-    fn depth_above(&self, entry: &Entry) -> u32
+    fn entry_depth(&self, entry: &Entry) -> u32
         requires formed { IsFormed self.now (length self.now) (node_view entry.now) }
         requires few { length self.now + 1 < 2 ^ 32 }
         ensures { result ≡ node_depth self.now (node_view entry.now) }
@@ -510,42 +510,42 @@ impl Types {
     }
 
     /// Whether the type of an entry would have wide text.
-    fn wide_above(&self, entry: &Entry) -> bool
+    fn entry_has_wide_text(&self, entry: &Entry) -> bool
         requires formed { IsFormed self.now (length self.now) (node_view entry.now) }
-        ensures { result ≡ node_wide self.now (node_view entry.now) }
+        ensures { result ≡ node_has_wide_text self.now (node_view entry.now) }
     {
         match entry.shape() {
             Shape::WideText => true,
             Shape::WideChar => true,
-            Shape::Members(count) => self.some_wide(entry, count),
-            Shape::Union(count) => self.some_wide(entry, count),
-            Shape::Tagged => self.some_wide(entry, 3),
-            Shape::Sequence(_) => self.is_wide(entry.part(0)),
-            Shape::Array(_) => self.is_wide(entry.part(0)),
-            Shape::Encapsulation => self.is_wide(entry.part(0)),
+            Shape::Members(count) => self.some_part_is_wide(entry, count),
+            Shape::Union(count) => self.some_part_is_wide(entry, count),
+            Shape::Tagged => self.some_part_is_wide(entry, 3),
+            Shape::Sequence(_) => self.has_wide_text(entry.part(0)),
+            Shape::Array(_) => self.has_wide_text(entry.part(0)),
+            Shape::Encapsulation => self.has_wide_text(entry.part(0)),
             _ => false,
         }
     }
 
     /// Whether one of an entry's first `count` parts has wide text.
-    fn some_wide(&self, entry: &Entry, count: u32) -> bool
+    fn some_part_is_wide(&self, entry: &Entry, count: u32) -> bool
         requires index { (i : ℕ) → i < count → HasIndex (shape_of (node_view entry.now)) i }
         requires below { (i : ℕ) → i < count
             → type_of (part_at (node_view entry.now) i) < length self.now }
-        ensures { result ≡ some_of count (part_wide self.now (node_view entry.now)) }
+        ensures { result ≡ any_below count (part_has_wide_text self.now (node_view entry.now)) }
     {
         let mut wide = false;
         for index in 0..count {
-            wide = wide || self.is_wide(entry.part(index));
+            wide = wide || self.has_wide_text(entry.part(index));
         }
         wide
     }
 
     /// Gives each recursive sequence the type that was declared for its announcement.
-    pub(crate) fn settle(&mut self, targets: &[Option<TypeId>])
-        ensures { self.new ≡ map (settled_node (map number_of_id targets.now)) self.old }
+    pub(crate) fn resolve_sequences(&mut self, targets: &[Option<TypeId>])
+        ensures { self.new ≡ map (resolved_node (map number_of_id targets.now)) self.old }
     {
-        settle_each(&mut self.placed, targets);
+        resolve_entries(&mut self.placed, targets);
     }
 
     /// Adds a type at the end. An `Err` changes nothing: memory was refused.
@@ -557,8 +557,8 @@ impl Types {
         ensures err { OnErr result (self.new ≡ self.old) }
     {
         let number = self.len();
-        let depth = self.depth_above(&entry);
-        let wide = self.wide_above(&entry);
+        let depth = self.entry_depth(&entry);
+        let wide = self.entry_has_wide_text(&entry);
         self.placed.push(EntryWithDepth { entry, depth, wide })?;
         self.deepest = self.deepest.max(depth);
         Ok(TypeId(number))

@@ -2,7 +2,7 @@
 ghost use Rattle.std.specs.Prelude.{◌≡◌, ℕ, ◌≤◌, List, ◌∷◌, ◌++◌, length, map, IfOk, OnOk, IfSome, IfNone};
 ghost use Rattle.giop_sig.specs.HeaderTypes.{KnowsAnys};
 ghost use Rattle.giop_sig.specs.Table.{Node};
-ghost use Rattle.giop_sig.specs.Heard.{first_fronts, with_front, with_front_of, with_fronts};
+ghost use Rattle.giop_sig.specs.Heard.{first_fronts, with_front, with_front_of_length, with_fronts};
 
 use arrayvec::ArrayVec;
 use indexmap::IndexSet;
@@ -60,7 +60,7 @@ pub(crate) fn first_fronts(alloc: Global) -> Result<IndexSet<Front>, AllocError>
 }
 
 /// Adds the front of `count` octets of an id, if the id has more and the front is new.
-fn add_front_of(
+fn add_front_of_length(
     fronts: &mut IndexSet<Front>,
     kind: u8,
     id: &[u8],
@@ -68,7 +68,7 @@ fn add_front_of(
 ) -> Result<(), AllocError>
     requires { length id.now ≤ 128 }
     ensures added { OnOk result (map (λ f. f.items) fronts.new.keys
-        ≡ with_front_of kind id.now count (map (λ f. f.items) fronts.old.keys)) }
+        ≡ with_front_of_length kind id.now count (map (λ f. f.items) fronts.old.keys)) }
     ensures known { (version : ℕ) (types : List Node) →
         KnowsAnys version types (map (λ f. f.items) fronts.old.keys) →
         KnowsAnys version types (map (λ f. f.items) fronts.new.keys) }
@@ -93,9 +93,9 @@ pub(crate) fn add_fronts(
         KnowsAnys version types (map (λ f. f.items) fronts.old.keys) →
         KnowsAnys version types (map (λ f. f.items) fronts.new.keys) }
 {
-    add_front_of(fronts, kind, id, 32)?;
-    add_front_of(fronts, kind, id, 64)?;
-    add_front_of(fronts, kind, id, 96)
+    add_front_of_length(fronts, kind, id, 32)?;
+    add_front_of_length(fronts, kind, id, 64)?;
+    add_front_of_length(fronts, kind, id, 96)
 }
 
 /// A front with the octets of a piece after it, which comes in two parts. None if that is longer

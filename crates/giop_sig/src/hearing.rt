@@ -2,15 +2,15 @@
 
 ghost use Rattle.std.specs.Prelude.{◌≡◌, ℕ, suc, ◌<◌, ◌≤◌, ◌++◌, length, position};
 ghost use Rattle.std.specs.Str.{bytes_eq};
-ghost use Rattle.giop_sig.specs.Heard.{bound_told, count_told, counted, front_at, hears, id_told, identity_told, next_sequence, sequence_told, spelt, unless_awaited};
-ghost use Rattle.giop_sig.specs.Hearings.{HasPart, hearing_in, sequel_of, sign_is, signal_after, signal_of, told_of};
-ghost use Rattle.giop_sig.specs.Trees.{has_room, follows, tree_at};
+ghost use Rattle.giop_sig.specs.Heard.{inferred_after_bound, inferred_by_count, inferred_after_count, front_at, inferred_after, inferred_by_id_part, inferred_by_id, next_sequence, inferred_sequence, inferred_after_piece, inferred_unless_awaited};
+ghost use Rattle.giop_sig.specs.Hearings.{HasPositiveIndex, inference_in, sequel_view, sign_view, signal_after, signal_of, inferred_of_signal};
+ghost use Rattle.giop_sig.specs.Trees.{has_room, can_be_value, tree_at};
 ghost use Rattle.giop_sig.specs.Types.{sequel};
 
 use crate::catalogue::Catalogue;
 use crate::fronts::{Front, longer_front};
 use crate::numbers::{HEARD_BOUND_MARK, HEARD_KIND_MARK};
-use crate::told_kinds::{built_in_sequence, told_by};
+use crate::told_kinds::{built_in_sequence, signal_by_kind};
 use crate::types::{Following, Shape, Sign, Signal, TypeId};
 
 impl Catalogue {
@@ -19,40 +19,40 @@ impl Catalogue {
     pub fn hear(&self, t: TypeId, told: Signal, sign: Sign<'_>) -> Signal
         requires { t.0 < length self.now.types }
         ensures is { result ≡ signal_after self.now t.0 told sign.entry }
-        ensures heard { (n : ℕ) → told_of result
-            ≡ (hearing_in (tree_at self.now n t.0)).hears (told_of told)
-            (sign_is sign.entry) }
+        ensures heard { (n : ℕ) → inferred_of_signal result
+            ≡ (inference_in (tree_at self.now n t.0)).inferred_after (inferred_of_signal told)
+            (sign_view sign.entry) }
     {
         self.seen(false).hear(t, told, sign)
     }
 
     /// What the TypeCode of an any has told after a sign in it.
-    pub(crate) fn hear_any(&self, told: Signal, sign: Sign<'_>) -> Signal
+    pub(crate) fn any_signal_after(&self, told: Signal, sign: Sign<'_>) -> Signal
         ensures { result
-            ≡ signal_of (hears self.now (told_of told) (sign_is sign.entry)) }
+            ≡ signal_of (inferred_after self.now (inferred_of_signal told) (sign_view sign.entry)) }
     {
         match sign {
-            Sign::Marked(HEARD_KIND_MARK, kind) => told_by(kind),
-            Sign::Marked(HEARD_BOUND_MARK, _) => self.bounded(told),
-            Sign::Marked(_, _) => unless_awaited(told),
-            Sign::Counted(count) => self.counted(told, count),
-            Sign::Spelt(held, rest, more) => self.spelt(told, held, rest, more),
+            Sign::Marked(HEARD_KIND_MARK, kind) => signal_by_kind(kind),
+            Sign::Marked(HEARD_BOUND_MARK, _) => self.signal_after_bound(told),
+            Sign::Marked(_, _) => signal_unless_awaited(told),
+            Sign::Counted(count) => self.signal_after_count(told, count),
+            Sign::Spelt(held, rest, more) => self.signal_after_piece(told, held, rest, more),
         }
     }
 
     /// After the bound of a sequence: the type of the sequence, if that of its elements is known.
-    fn bounded(&self, told: Signal) -> Signal
-        ensures { result ≡ signal_of (bound_told self.now (told_of told)) }
+    fn signal_after_bound(&self, told: Signal) -> Signal
+        ensures { result ≡ signal_of (inferred_after_bound self.now (inferred_of_signal told)) }
     {
         match told {
-            Signal::Is(element) => self.sequence_of(TypeId(element)),
+            Signal::Is(element) => self.signal_of_sequence(TypeId(element)),
             _ => Signal::Unknown,
         }
     }
 
     /// The sequence of a type, if there is one.
-    fn sequence_of(&self, t: TypeId) -> Signal
-        ensures { result ≡ signal_of (sequence_told self.now t.0) }
+    fn signal_of_sequence(&self, t: TypeId) -> Signal
+        ensures { result ≡ signal_of (inferred_sequence self.now t.0) }
     {
         match built_in_sequence(t) {
             Some(sequence) => Signal::Is(sequence.0),
@@ -76,18 +76,19 @@ impl Catalogue {
     }
 
     /// After a count: the type that was offered, if it has this many members.
-    fn counted(&self, told: Signal, count: u32) -> Signal
-        ensures { result ≡ signal_of (counted self.now (told_of told) count) }
+    fn signal_after_count(&self, told: Signal, count: u32) -> Signal
+        ensures { result
+            ≡ signal_of (inferred_after_count self.now (inferred_of_signal told) count) }
     {
         match told {
-            Signal::Offers(t) => self.offered(TypeId(t), count),
-            _ => unless_awaited(told),
+            Signal::Offers(t) => self.signal_if_count(TypeId(t), count),
+            _ => signal_unless_awaited(told),
         }
     }
 
     /// A type, if it has this many members.
-    fn offered(&self, t: TypeId, count: u32) -> Signal
-        ensures { result ≡ signal_of (count_told self.now t.0 count) }
+    fn signal_if_count(&self, t: TypeId, count: u32) -> Signal
+        ensures { result ≡ signal_of (inferred_by_count self.now t.0 count) }
     {
         if self.has(t) && self.entry(t).has_count(count) {
             Signal::Is(t.0)
@@ -97,28 +98,28 @@ impl Catalogue {
     }
 
     /// After a piece of a string, which comes in two parts.
-    fn spelt(&self, told: Signal, held: &[u8], rest: &[u8], more: bool) -> Signal
+    fn signal_after_piece(&self, told: Signal, held: &[u8], rest: &[u8], more: bool) -> Signal
         ensures { result ≡ signal_of
-            (spelt self.now (told_of told) (held.now ++ rest.now) more) }
+            (inferred_after_piece self.now (inferred_of_signal told) (held.now ++ rest.now) more) }
     {
         match told {
-            Signal::Awaits(front) => self.id_told(front, held, rest, more),
+            Signal::Awaits(front) => self.signal_after_id_piece(front, held, rest, more),
             _ => told,
         }
     }
 
     /// After a piece of a repository id, in two parts. The id's octets before the piece are the
     /// front with this number.
-    fn id_told(&self, front: u32, held: &[u8], rest: &[u8], more: bool) -> Signal
-        ensures { result ≡ signal_of (id_told self.now
+    fn signal_after_id_piece(&self, front: u32, held: &[u8], rest: &[u8], more: bool) -> Signal
+        ensures { result ≡ signal_of (inferred_by_id_part self.now
             (front_at self.now front ++ (held.now ++ rest.now)) more) }
     {
         self.laws();
-        let Some(octets) = longer_front(self.front(front), held, rest) else {
+        let Some(octets) = longer_front(self.front_octets(front), held, rest) else {
             return Signal::Unknown;
         };
         if !more {
-            return self.identity_told(&octets);
+            return self.signal_after_id(&octets);
         }
         match self.front_number(&octets) {
             Some(longer) => Signal::Awaits(longer),
@@ -127,7 +128,7 @@ impl Catalogue {
     }
 
     /// The front with this number, or no octets if there is none.
-    fn front(&self, number: u32) -> &[u8]
+    fn front_octets(&self, number: u32) -> &[u8]
         ensures { result.now ≡ front_at self.now number }
     {
         match self.fronts.get_index(number as usize) {
@@ -145,13 +146,13 @@ impl Catalogue {
     }
 
     /// After a whole repository id, which comes after the octet of its kind.
-    fn identity_told(&self, octets: &[u8]) -> Signal
-        ensures { result ≡ signal_of (identity_told self.now octets.now) }
+    fn signal_after_id(&self, octets: &[u8]) -> Signal
+        ensures { result ≡ signal_of (inferred_by_id self.now octets.now) }
     {
         match octets {
             [] => Signal::Unknown,
             [kind, id @ ..] => match self.identified(id) {
-                Some(t) => self.entry(t).told_as(*kind, t),
+                Some(t) => self.entry(t).inferred_by_id_kind(*kind, t),
                 None => Signal::Unknown,
             },
         }
@@ -161,9 +162,10 @@ impl Catalogue {
     /// room.
     pub fn following(&self, t: TypeId, told: Signal, room: u8) -> Following
         requires { t.0 < length self.now.types }
-        ensures is { sequel (hearing_in (tree_at self.now (suc room) t.0)) (told_of told)
-            ≡ sequel_of result }
-        ensures index { HasPart result }
+        ensures is { sequel (inference_in (tree_at self.now (suc room) t.0))
+            (inferred_of_signal told)
+            ≡ sequel_view result }
+        ensures index { HasPositiveIndex result }
         ensures known { (index : ℕ) → result ≡ Following.Then index →
             index ≤ length self.now.types }
     {
@@ -171,14 +173,14 @@ impl Catalogue {
     }
 
     /// Whether a type can be that of the value in an any, if the value has this room.
-    pub fn follows(&self, t: TypeId, room: u8) -> bool
-        ensures { result ≡ follows self.now room t.0 }
+    pub fn can_be_value(&self, t: TypeId, room: u8) -> bool
+        ensures { result ≡ can_be_value self.now room t.0 }
     {
-        self.seen(false).follows(t, room)
+        self.seen(false).can_be_value(t, room)
     }
 
     /// The same for a type without wide text.
-    pub(crate) fn can_follow(&self, t: TypeId, room: u8) -> bool
+    pub(crate) fn has_room(&self, t: TypeId, room: u8) -> bool
         ensures { result ≡ has_room self.now room t.0 }
     {
         self.has(t) && self.entry(t).takes_octet() && self.depth_at(t) <= u32::from(room)
@@ -186,8 +188,8 @@ impl Catalogue {
 }
 
 /// After something that tells nothing.
-fn unless_awaited(told: Signal) -> Signal
-    ensures { result ≡ signal_of (unless_awaited (told_of told)) }
+fn signal_unless_awaited(told: Signal) -> Signal
+    ensures { result ≡ signal_of (inferred_unless_awaited (inferred_of_signal told)) }
 {
     match told {
         Signal::Awaits(_) => Signal::Unknown,

@@ -34,13 +34,14 @@ pub(crate) struct InterfaceTable {
 
 impl Model for InterfaceTable {
     ghost use Rattle.giop_sig.specs.Interfaces.{Interfaces};
-    ghost use Rattle.giop_sig.specs.InterfaceViews.{interfaces_view, AreKept};
+    ghost use Rattle.giop_sig.specs.InterfaceViews.{interfaces_view, AreInterfacesKept};
 
     ghost Value = { Interfaces };
 
     ghost view = { λ a. interfaces_view a.names.keys a.keys.entries };
 
-    ghost invariant = { λ a. AreKept a.sizes (interfaces_view a.names.keys a.keys.entries) };
+    ghost invariant = { λ a. AreInterfacesKept a.sizes
+        (interfaces_view a.names.keys a.keys.entries) };
 }
 
 /// A hexadecimal digit.

@@ -62,22 +62,22 @@ pub fn kind_word(mark: u32, n: u32) -> Option<&'static [u8]>
     ensures word { option_map (λ x. x.now) result ≡ marked_word mark n }
     ensures short { IfSome result (λ x. length x.now ≤ 64) }
 {
-    if is_kind(mark) { word_of(n) } else { None }
+    if is_kind(mark) { word_of_kind(n) } else { None }
 }
 
 /// The word of a kind.
-fn word_of(n: u32) -> Option<&'static [u8]>
+fn word_of_kind(n: u32) -> Option<&'static [u8]>
     ensures { option_map (λ x. x.now) result ≡ kind_word n }
 {
     if n == INDIRECTION {
         Some(b"indirection")
     } else {
-        word_at(&WORDS, n)
+        word_at_index(&WORDS, n)
     }
 }
 
 /// The word at an index, if there is one.
-fn word_at(words: &[&'static [u8]], index: u32) -> Option<&'static [u8]>
+fn word_at_index(words: &[&'static [u8]], index: u32) -> Option<&'static [u8]>
     ensures { option_map (λ x. x.now) result ≡ slice_get (map (λ w. w.now) words.now) index }
 {
     let index = index as usize;

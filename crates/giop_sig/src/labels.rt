@@ -3,9 +3,9 @@ ghost use Rattle.std.specs.Prelude.{◌≡◌, ◌^◌, ◌<◌, ◌≤◌, pos,
 ghost use Rattle.std.specs.Str.{bytes_eq};
 ghost use Rattle.giop_sig.specs.Outcomes.{Gives};
 ghost use Rattle.giop_sig.specs.Table.{prim as prim_node};
-ghost use Rattle.giop_sig.specs.Scopes.{below, if_at_most, numbered, label_number};
+ghost use Rattle.giop_sig.specs.Scopes.{below, if_at_most, enumerator_number, label_number};
 ghost use Rattle.giop_sig.specs.Grammar.{Plain, Below};
-ghost use Rattle.giop_sig.specs.Views.{node_view, IsSized};
+ghost use Rattle.giop_sig.specs.Views.{node_view, HasCountableParts};
 ghost use Rattle.giop_sig.specs.Labels.{value_view};
 ghost use Rattle.giop_sig.specs.UnionReading.{word_value, value_at};
 
@@ -31,15 +31,15 @@ pub(crate) enum LabelValue<'a> {
     Enumerator(&'a [u8]),
 }
 
-/// The value of a word, which the text begins with. `third` says whether the file is of version 3.
+/// The value of a word, which the text begins with. `version_3` says whether the file is of version 3.
 fn word_value<'a>(
-    third: bool,
+    version_3: bool,
     text: &[u8],
     name: &'a [u8],
     rest: &'a [u8],
 ) -> Result<(LabelValue<'a>, &'a [u8]), ParseError>
     ensures { Gives (λ x. (value_view x.0, x.1.now)) result
-        (word_value third text.now name.now rest.now) }
+        (word_value version_3 text.now name.now rest.now) }
 {
     if name == b"true".as_slice() {
         return Ok((LabelValue::Truth(true), rest));
@@ -47,7 +47,7 @@ fn word_value<'a>(
     if name == b"false".as_slice() {
         return Ok((LabelValue::Truth(false), rest));
     }
-    if is_reserved(third, name) {
+    if is_reserved(version_3, name) {
         return Err(ParseError::Refused(misplaced(text)));
     }
     if name.len() > NAME_MAX {
@@ -56,14 +56,14 @@ fn word_value<'a>(
     Ok((LabelValue::Enumerator(name), rest))
 }
 
-/// The value of the label that the text begins with. `third` says whether the file is of version 3.
+/// The value of the label that the text begins with. `version_3` says whether the file is of version 3.
 #[tactic(auto, unfolding(crate::specs::UnionReading::value_at))]
-pub(crate) fn value_at(third: bool, text: &[u8]) -> Result<(LabelValue<'_>, &[u8]), ParseError>
-    ensures { Gives (λ x. (value_view x.0, x.1.now)) result (value_at third text.now) }
+pub(crate) fn value_at(version_3: bool, text: &[u8]) -> Result<(LabelValue<'_>, &[u8]), ParseError>
+    ensures { Gives (λ x. (value_view x.0, x.1.now)) result (value_at version_3 text.now) }
 {
     let (token, rest) = next(text)?;
     match token {
-        Some(Token::Word(name)) => word_value(third, text, name, rest),
+        Some(Token::Word(name)) => word_value(version_3, text, name, rest),
         Some(Token::Number(n)) => Ok((LabelValue::Plain(n), rest)),
         Some(Token::Negative(n)) => Ok((LabelValue::Below(n), rest)),
         _ => Err(ParseError::Refused(misplaced(text))),
@@ -159,7 +159,8 @@ fn prim_label(prim: Prim, value: LabelValue<'_>) -> Option<Number>
 /// The enumerator with this name.
 fn enumerator(names: &[Vec<u8>], name: &[u8]) -> Option<Number>
     requires { length names.now ≤ 1024 }
-    ensures { result ≡ numbered (position (bytes_eq name.now) (map (λ n. n.items) names.now)) }
+    ensures { result ≡ enumerator_number (position (bytes_eq name.now)
+        (map (λ n. n.items) names.now)) }
 {
     let index = names.iter().position(|one| name == one.as_slice())?;
     Some(Number::Unsigned(index as u64))
@@ -167,7 +168,7 @@ fn enumerator(names: &[Vec<u8>], name: &[u8]) -> Option<Number>
 
 /// The value of a discriminator's type that the value of a label names.
 pub(crate) fn label_number(switch: &Entry, value: LabelValue<'_>) -> Option<Number>
-    requires { IsSized switch.now }
+    requires { HasCountableParts switch.now }
     ensures { result ≡ label_number (node_view switch.now) (value_view value.entry) }
 {
     match switch {

@@ -57,8 +57,8 @@ pub fn number_name(mark: u32, n: u32) -> Option<NumberName>
     match mark {
         CONTEXT_ID_MARK => without_code(CONTEXTS.get(n as usize).copied()),
         PROFILE_TAG_MARK => without_code(PROFILES.get(n as usize).copied()),
-        CODE_SET_MARK => without_code(code_set(n)),
-        MINOR_MARK => minor(n),
+        CODE_SET_MARK => without_code(name_of_code_set(n)),
+        MINOR_MARK => minor_code_name(n),
         _ => None,
     }
 }
@@ -74,18 +74,18 @@ fn without_code(word: Option<&'static [u8]>) -> Option<NumberName>
 }
 
 /// The name of a minor code: its vendor, and its lower 12 bits.
-fn minor(n: u32) -> Option<NumberName>
+fn minor_code_name(n: u32) -> Option<NumberName>
     ensures name { option_map name_text result ≡ minor_name n }
     ensures short { IfSome result (λ name. length name.word.now ≤ 64) }
 {
-    let word = vendor(n / 4096)?;
+    let word = vendor_of_code(n / 4096)?;
     let code = Some((n % 4096) as u16);
     Some(NumberName { word, code })
 }
 
 /// The name of a code set.
 #[tactic(auto, unfolding(crate::specs::Names::code_set_name))]
-fn code_set(n: u32) -> Option<&'static [u8]>
+fn name_of_code_set(n: u32) -> Option<&'static [u8]>
     ensures word { option_map (λ word. word.now) result ≡ code_set_name n }
     ensures short { IfSome result (λ word. length word.now ≤ 64) }
 {
@@ -102,7 +102,7 @@ fn code_set(n: u32) -> Option<&'static [u8]>
 
 /// The vendor with these upper 20 bits of minor codes.
 #[tactic(auto, unfolding(crate::specs::Names::vendor_name))]
-fn vendor(n: u32) -> Option<&'static [u8]>
+fn vendor_of_code(n: u32) -> Option<&'static [u8]>
     ensures word { option_map (λ word. word.now) result ≡ vendor_name n }
     ensures short { IfSome result (λ word. length word.now ≤ 64) }
 {

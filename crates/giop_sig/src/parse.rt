@@ -5,11 +5,11 @@ ghost use Rattle.giop_sig.specs.Builtin.{builtin_types};
 ghost use Rattle.giop_sig.specs.AnyTypes.{first_types};
 ghost use Rattle.giop_sig.specs.Grammar.{SignatureFile};
 ghost use Rattle.giop_sig.specs.Scopes.{table};
-ghost use Rattle.giop_sig.specs.Trees.{AreSettled};
+ghost use Rattle.giop_sig.specs.Trees.{AreResolved};
 ghost use Rattle.giop_sig.specs.Validity.{IsValid, Spells, SpellsUpTo, Refuses};
 ghost use Rattle.giop_sig.specs.Outcomes.{Gives};
 ghost use Rattle.giop_sig.specs.Repeats.{in_steps};
-ghost use Rattle.giop_sig.specs.FileReading.{announcements, declaration_at, lefts_after, settled_at, declarations_step, misplaced_after, version_at, head_at, file_at, text_too_long, IsFirstRefusal, IsFirstRefusalUpTo};
+ghost use Rattle.giop_sig.specs.FileReading.{announcement_count, declaration_at, with_announced_left, resolved_if_declared, declarations_step, misplaced_after, version_at, version_line_at, file_at, text_too_long, IsFirstRefusal, IsFirstRefusalUpTo};
 
 use crate::catalogue::Catalogue;
 use crate::draft::{Draft, THIRD_VERSION};
@@ -20,8 +20,8 @@ use crate::read_items::{exception_at, structure_at};
 use crate::read_unions::union;
 use crate::types::TypeId;
 use giop_tokens::{
-    Mark, SigFault, SigFaultKind, TokenError, fault_in, is_at_end, keyword, left_of, mark,
-    misplaced, number, word,
+    Mark, SigFault, SigFaultKind, TokenError, fault_in, is_at_end, keyword, mark, misplaced,
+    number, octets_left_at_token, word,
 };
 use std::alloc::Global;
 
@@ -52,7 +52,7 @@ fn declaration_at<'a>(
         exception_at(alloc, draft, rest)
     } else if name == b"operation".as_slice() {
         operation_at(alloc, draft, rest)
-    } else if draft.is_third() && name == b"key".as_slice() {
+    } else if draft.is_version_3() && name == b"key".as_slice() {
         key_at(draft, rest)
     } else {
         Err(ParseError::Refused(misplaced(text)))
@@ -61,19 +61,19 @@ fn declaration_at<'a>(
 
 /// Adds how many octets are left from the name on in the declaration that a text begins with, if
 /// the declaration announced it. `before` names were announced before it.
-#[tactic(auto, unfolding(crate::specs::FileReading::lefts_after))]
-fn add_left(
+#[tactic(auto, unfolding(crate::specs::FileReading::with_announced_left))]
+fn add_left_if_announced(
     before: usize,
     draft: &Draft,
     lefts: &mut Vec<usize>,
     text: &[u8],
 ) -> Result<(), ParseError>
     ensures { Gives (λ x. lefts.new.items) result
-        (lefts_after before (announcements draft.now) lefts.old.items text.now) }
+        (with_announced_left before (announcement_count draft.now) lefts.old.items text.now) }
 {
     let (_, rest) = word(text)?;
-    if before < draft.announcements() {
-        lefts.push(left_of(rest))?;
+    if before < draft.announcement_count() {
+        lefts.push(octets_left_at_token(rest))?;
     }
     Ok(())
 }
@@ -93,9 +93,9 @@ fn declarations_step<'a>(
     if is_at_end(text)? {
         return Ok((true, text));
     }
-    let before = draft.announcements();
+    let before = draft.announcement_count();
     let rest = declaration_at(alloc, draft, text)?;
-    add_left(before, draft, lefts, text)?;
+    add_left_if_announced(before, draft, lefts, text)?;
     Ok((false, rest))
 }
 
@@ -137,9 +137,9 @@ fn version_at(latest: u8, text: &[u8]) -> Result<(u8, &[u8]), ParseError>
 }
 
 /// What comes before the declarations: the version.
-#[tactic(auto, unfolding(crate::specs::FileReading::head_at))]
-fn head_at(latest: u8, text: &[u8]) -> Result<(u8, &[u8]), ParseError>
-    ensures { Gives (λ x. (x.0, x.1.now)) result (head_at latest text.now) }
+#[tactic(auto, unfolding(crate::specs::FileReading::version_line_at))]
+fn version_line_at(latest: u8, text: &[u8]) -> Result<(u8, &[u8]), ParseError>
+    ensures { Gives (λ x. (x.0, x.1.now)) result (version_line_at latest text.now) }
 {
     let rest = keyword(text, b"signatures")?;
     let (version, rest) = version_at(latest, rest)?;
@@ -151,26 +151,26 @@ fn head_at(latest: u8, text: &[u8]) -> Result<(u8, &[u8]), ParseError>
 #[tactic(auto, unfolding(crate::specs::FileReading::file_at))]
 fn draft_of(alloc: Global, latest: u8, text: &[u8]) -> Result<Draft, ParseError>
     ensures gives { Gives (λ x. x) result (file_at latest text.now) }
-    ensures settled { IfOk result (λ draft. AreSettled draft.table.types) }
+    ensures settled { IfOk result (λ draft. AreResolved draft.table.types) }
 {
-    let (version, rest) = head_at(latest, text)?;
+    let (version, rest) = version_line_at(latest, text)?;
     let mut draft = Draft::new(alloc, version)?;
     let mut lefts = Vec::new(alloc);
     declarations(alloc, &mut draft, &mut lefts, text.len(), rest)?;
-    settle(alloc, &mut draft, lefts.as_slice())?;
+    resolve_sequences(alloc, &mut draft, lefts.as_slice())?;
     Ok(draft)
 }
 
 /// The end of the text. Each name that is announced must be declared.
-#[tactic(auto, unfolding(crate::specs::FileReading::settled_at))]
-fn settle(alloc: Global, draft: &mut Draft, lefts: &[usize]) -> Result<(), ParseError>
-    ensures gives { Gives (λ x. draft.new) result (settled_at draft.old lefts.now) }
-    ensures settled { OnOk result (AreSettled draft.new.table.types) }
+#[tactic(auto, unfolding(crate::specs::FileReading::resolved_if_declared))]
+fn resolve_sequences(alloc: Global, draft: &mut Draft, lefts: &[usize]) -> Result<(), ParseError>
+    ensures gives { Gives (λ x. draft.new) result (resolved_if_declared draft.old lefts.now) }
+    ensures settled { OnOk result (AreResolved draft.new.table.types) }
 {
-    let targets = draft.targets(alloc)?;
+    let targets = draft.types_of_announced(alloc)?;
     match first_none(targets.as_slice()) {
         None => {
-            draft.settle(targets.as_slice());
+            draft.resolve_sequences(targets.as_slice());
             Ok(())
         }
         Some(i) => Err(ParseError::Refused(TokenError {

@@ -4,9 +4,9 @@ ghost use Rattle.std.specs.Option.{option_map};
 ghost use Rattle.giop_sig.specs.Interfaces.{number_of};
 ghost use Rattle.giop_sig.specs.Outcomes.{Gives};
 ghost use Rattle.giop_sig.specs.UnionCases.{part_view};
-ghost use Rattle.giop_sig.specs.CallReading.{ParameterLists, return_at, new_operation_at, direction_of, direction_at, in_request, in_reply, with_param, param_step, params_run, params_at, Called, interface_at, new_variant_at, after_comma, variant_step, too_many_variants, plain_by, listed_at, new_key_at, key_at, operation_at, no_parameters};
+ghost use Rattle.giop_sig.specs.CallReading.{ParameterLists, return_at, new_operation_at, direction_of, direction_at, with_request_part, with_reply_part, with_param, param_step, params_run, params_at, OperationStructs, interface_at, operation_interface_at, after_comma, interface_step, too_many_interfaces, without_interfaces_at, optional_interfaces_at, new_key_at, key_at, operation_at, only_returned};
 ghost use Rattle.giop_sig.specs.Scopes.{part};
-ghost use Rattle.giop_sig.specs.ParameterViews.{parameter_lists_view, called_view, KeepsTypes};
+ghost use Rattle.giop_sig.specs.ParameterViews.{parameter_lists_view, operation_structs_view, KeepsTypes};
 ghost use Rattle.giop_sig.specs.Repeats.{in_steps};
 
 use crate::catalogue::Signature;
@@ -14,12 +14,12 @@ use crate::draft::Draft;
 use crate::entries::{Entry, PartEntry};
 use crate::interfaces::is_key;
 use crate::parse_stop::ParseError;
-use crate::read_items::{DECLARED_MAX, add_part, end_of, item_at, part_of};
+use crate::read_items::{DECLARED_MAX, add_part, declaration_end_at, item_at, part_of};
 use crate::read_types::{refused, type_at};
 use crate::types::TypeId;
 use giop_tokens::{
-    Mark, SigFaultKind, keyword, left_of, mark, misplaced, operation_name, repository_id,
-    starts_with_keyword, starts_with_mark, word,
+    Mark, SigFaultKind, keyword, mark, misplaced, octets_left_at_token, operation_name,
+    repository_id, starts_with_keyword, starts_with_mark, word,
 };
 use std::alloc::Global;
 
@@ -63,7 +63,7 @@ fn new_operation_at<'a>(draft: &Draft, text: &'a [u8]) -> Result<(&'a [u8], &'a 
     ensures { Gives (λ x. (x.0.now, x.1.now)) result (new_operation_at draft.now text.now) }
 {
     let (name, rest) = operation_name(text)?;
-    if !draft.is_third() && draft.has_operation(0, name) {
+    if !draft.is_version_3() && draft.has_operation(0, name) {
         return Err(ParseError::Refused(refused(SigFaultKind::Duplicate, text)));
     }
     if draft.operations_declared() >= DECLARED_MAX {
@@ -108,7 +108,7 @@ fn add_to_request(
     t: TypeId,
 ) -> Result<(), ParseError>
     ensures { Gives (λ x. map part_view parts.new.items) result
-        (Ok (in_request direction (part name.now t.0) (map part_view parts.old.items))) }
+        (Ok (with_request_part direction (part name.now t.0) (map part_view parts.old.items))) }
 {
     match direction {
         Direction::Out => Ok(()),
@@ -125,7 +125,7 @@ fn add_to_reply(
     t: TypeId,
 ) -> Result<(), ParseError>
     ensures { Gives (λ x. map part_view parts.new.items) result
-        (Ok (in_reply direction (part name.now t.0) (map part_view parts.old.items))) }
+        (Ok (with_reply_part direction (part name.now t.0) (map part_view parts.old.items))) }
 {
     match direction {
         Direction::In => Ok(()),
@@ -142,7 +142,7 @@ struct Parameters<'a> {
 }
 
 /// Adds a parameter.
-fn keep_param<'a>(
+fn add_param<'a>(
     alloc: Global,
     parameters: &mut Parameters<'a>,
     direction: Direction,
@@ -170,7 +170,7 @@ fn param_step<'a>(
 {
     let (direction, rest) = direction_at(text)?;
     let (name, t, rest) = item_at(alloc, draft, PARAMS_MAX, parameters.seen.as_slice(), rest)?;
-    keep_param(alloc, parameters, direction, name, t)?;
+    add_param(alloc, parameters, direction, name, t)?;
     if let Some(rest) = starts_with_mark(rest, Mark::Comma)? {
         return Ok((false, rest));
     }
@@ -204,7 +204,7 @@ fn params_run<'a>(
 ) -> Result<(Vec<PartEntry>, Vec<PartEntry>, &'a [u8]), ParseError>
     ensures { Gives (λ x. (draft.new, map part_view x.0.items, map part_view x.1.items, x.2.now))
         result (params_run 256
-        (draft.old, no_parameters (map part_view returned.items), text.now)) }
+        (draft.old, only_returned (map part_view returned.items), text.now)) }
 {
     let mut parameters = Parameters {
         seen: Vec::new(alloc),
@@ -237,22 +237,22 @@ fn interface_at<'a>(draft: &Draft, text: &'a [u8]) -> Result<(&'a [u8], &'a [u8]
 
 /// The name and the structs of an operation.
 #[derive(Clone, Copy, Drop)]
-struct Called<'a> {
+struct OperationStructs<'a> {
     name: &'a [u8],
     signature: Signature,
 }
 
 /// An interface in which an operation's name is new. Answers its number, from 1, its repository id,
 /// and the rest.
-#[tactic(auto, unfolding(crate::specs::CallReading::new_variant_at))]
-fn new_variant<'a>(
+#[tactic(auto, unfolding(crate::specs::CallReading::operation_interface_at))]
+fn operation_interface_at<'a>(
     draft: &Draft,
-    called: Called<'_>,
+    called: OperationStructs<'_>,
     text: &'a [u8],
 ) -> Result<(u32, &'a [u8], &'a [u8]), ParseError>
     requires short { length called.name.now ≤ 128 }
     ensures gives { Gives (λ x. (x.1.now, x.2.now)) result
-        (new_variant_at (called_view called.entry) draft.now.table text.now) }
+        (operation_interface_at (operation_structs_view called.entry) draft.now.table text.now) }
     ensures number { IfOk result (λ x.
         x.0 ≡ number_of draft.now.table.interfaces x.1.now + 1) }
     ensures few { IfOk result (λ x. x.0 ≤ 1024) }
@@ -279,20 +279,20 @@ fn after_comma<'a>(rest: &'a [u8], comma: Option<&'a [u8]>) -> (bool, &'a [u8])
 
 /// An interface of an operation, and the comma after it. Answers whether there was none, and the
 /// rest.
-#[tactic(auto, unfolding(crate::specs::CallReading::variant_step))]
-fn variant_step<'a>(
+#[tactic(auto, unfolding(crate::specs::CallReading::interface_step))]
+fn interface_step<'a>(
     draft: &mut Draft,
-    called: Called<'_>,
+    called: OperationStructs<'_>,
     text: &'a [u8],
 ) -> Result<(bool, &'a [u8]), ParseError>
     requires short { length called.name.now ≤ 128 }
     requires request { called.signature.request.0 < length draft.old.table.types }
     requires reply { called.signature.reply.0 < length draft.old.table.types }
     ensures gives { Gives (λ x. (x.0, (draft.new, x.1.now))) result
-        (variant_step (called_view called.entry) (draft.old, text.now)) }
+        (interface_step (operation_structs_view called.entry) (draft.old, text.now)) }
     ensures keeps { OnOk result (KeepsTypes draft.old draft.new) }
 {
-    let (interface, id, rest) = new_variant(draft, called, text)?;
+    let (interface, id, rest) = operation_interface_at(draft, called, text)?;
     let comma = starts_with_mark(rest, Mark::Comma)?;
     draft.add_interface(id)?;
     draft.add_operation(interface, called.name, called.signature)?;
@@ -300,22 +300,23 @@ fn variant_step<'a>(
 }
 
 /// The interfaces of an operation, at least one. Answers the rest.
-fn variants_at<'a>(
+fn interfaces_at<'a>(
     draft: &mut Draft,
-    called: Called<'_>,
+    called: OperationStructs<'_>,
     text: &'a [u8],
 ) -> Result<&'a [u8], ParseError>
     requires short { length called.name.now ≤ 128 }
     requires request { called.signature.request.0 < length draft.old.table.types }
     requires reply { called.signature.reply.0 < length draft.old.table.types }
     ensures gives { Gives (λ x. (draft.new, x.now)) result
-        (in_steps (variant_step (called_view called.entry)) too_many_variants (length text.now)
+        (in_steps (interface_step (operation_structs_view called.entry)) too_many_interfaces
+        (length text.now)
         (draft.old, text.now)) }
     ensures keeps { OnOk result (KeepsTypes draft.old draft.new) }
 {
     let mut rest = text;
     for _ in 0..text.len() {
-        let (over, after) = variant_step(draft, called, rest)?;
+        let (over, after) = interface_step(draft, called, rest)?;
         if over {
             return Ok(after);
         }
@@ -325,17 +326,17 @@ fn variants_at<'a>(
 }
 
 /// An operation without interfaces, whose name is at the front of `at`.
-fn plain_by<'a>(
+fn without_interfaces_at<'a>(
     draft: &mut Draft,
     at: &[u8],
-    called: Called<'_>,
+    called: OperationStructs<'_>,
     text: &'a [u8],
 ) -> Result<&'a [u8], ParseError>
     requires short { length called.name.now ≤ 128 }
     requires request { called.signature.request.0 < length draft.old.table.types }
     requires reply { called.signature.reply.0 < length draft.old.table.types }
     ensures gives { Gives (λ x. (draft.new, x.now)) result
-        (plain_by at.now (called_view called.entry) (draft.old, text.now)) }
+        (without_interfaces_at at.now (operation_structs_view called.entry) (draft.old, text.now)) }
     ensures keeps { OnOk result (KeepsTypes draft.old draft.new) }
 {
     if draft.has_operation(0, called.name) {
@@ -347,26 +348,27 @@ fn plain_by<'a>(
 
 /// The interfaces of an operation, if it has some. Its name is at the front of `at`. Answers the
 /// rest.
-#[tactic(auto, unfolding(crate::specs::CallReading::listed_at))]
-fn listed_at<'a>(
+#[tactic(auto, unfolding(crate::specs::CallReading::optional_interfaces_at))]
+fn optional_interfaces_at<'a>(
     draft: &mut Draft,
     at: &[u8],
-    called: Called<'_>,
+    called: OperationStructs<'_>,
     text: &'a [u8],
 ) -> Result<&'a [u8], ParseError>
     requires short { length called.name.now ≤ 128 }
     requires request { called.signature.request.0 < length draft.old.table.types }
     requires reply { called.signature.reply.0 < length draft.old.table.types }
     ensures gives { Gives (λ x. (draft.new, x.now)) result
-        (listed_at at.now (called_view called.entry) (draft.old, text.now)) }
+        (optional_interfaces_at at.now (operation_structs_view called.entry)
+        (draft.old, text.now)) }
     ensures keeps { OnOk result (KeepsTypes draft.old draft.new) }
 {
-    if draft.is_third() {
+    if draft.is_version_3() {
         if let Some(rest) = starts_with_keyword(text, b"of")? {
-            return variants_at(draft, called, rest);
+            return interfaces_at(draft, called, rest);
         }
     }
-    plain_by(draft, at, called, text)
+    without_interfaces_at(draft, at, called, text)
 }
 
 /// A new KEY.
@@ -392,12 +394,12 @@ fn new_key_at<'a>(draft: &Draft, text: &'a [u8]) -> Result<(&'a [u8], &'a [u8]),
 pub(crate) fn key_at<'a>(draft: &mut Draft, text: &'a [u8]) -> Result<&'a [u8], ParseError>
     ensures { Gives (λ x. (draft.new, x.now)) result (key_at draft.old text.now) }
 {
-    let at = left_of(text);
+    let at = octets_left_at_token(text);
     let (key, rest) = new_key_at(draft, text)?;
     let rest = keyword(rest, b"of")?;
     let (id, rest) = interface_at(draft, rest)?;
     draft.add_key(key, id)?;
-    end_of(draft, at, rest)
+    declaration_end_at(draft, at, rest)
 }
 
 /// An operation, after its first word. Answers the rest.
@@ -411,7 +413,7 @@ pub(crate) fn operation_at<'a>(
 {
     draft.laws();
     let (returned, after) = return_at(alloc, draft, text)?;
-    let at = left_of(after);
+    let at = octets_left_at_token(after);
     let (name, rest) = new_operation_at(draft, after)?;
     let rest = mark(rest, Mark::OpenParenthesis)?;
     let (request, reply, rest) = params_at(alloc, draft, returned, rest)?;
@@ -421,7 +423,7 @@ pub(crate) fn operation_at<'a>(
         request: q,
         reply: r,
     };
-    let rest = listed_at(draft, after, Called { name, signature }, rest)?;
+    let rest = optional_interfaces_at(draft, after, OperationStructs { name, signature }, rest)?;
     draft.count_operation();
-    end_of(draft, at, rest)
+    declaration_end_at(draft, at, rest)
 }

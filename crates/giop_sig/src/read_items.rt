@@ -5,25 +5,25 @@ ghost use Rattle.std.specs.Map.{lookup};
 ghost use Rattle.std.specs.Option.{option_map};
 ghost use Rattle.std.specs.Str.{bytes_eq};
 ghost use Rattle.giop_sig.specs.Outcomes.{Gives};
-ghost use Rattle.giop_sig.specs.Scopes.{is_third, part, add_arrays};
+ghost use Rattle.giop_sig.specs.Scopes.{is_version_3, part, add_arrays};
 ghost use Rattle.giop_sig.specs.ScopeViews.{IsKnown, IsNewIdentity};
 ghost use Rattle.giop_sig.specs.Validity.{is_among};
 ghost use Rattle.giop_sig.specs.UnionCases.{part_view};
 ghost use Rattle.giop_sig.specs.Views.{node_view};
 ghost use Rattle.giop_sig.specs.HeaderTypes.{IsAddable};
 ghost use Rattle.giop_sig.specs.Table.{IsFormed, TakesOctet};
-ghost use Rattle.giop_sig.specs.ItemReading.{new_name_at, declared_at, lengths_at, most_lengths, item_at, member_step, members_at, filled_at, identity_at, end_of, type_end_at, structure_at, new_repository_at, exception_at, announces_at, announcement_at, structure_after};
+ghost use Rattle.giop_sig.specs.ItemReading.{new_name_at, declared_name_at, lengths_at, most_lengths, item_at, member_step, members_at, non_empty_list_at, identity_at, declaration_end_at, type_end_at, structure_at, new_repository_at, exception_at, announces_at, announcement_at, structure_after};
 
 use crate::announced::TypeWord;
 use crate::draft::Draft;
 use crate::entries::{Entry, PartEntry};
 use crate::parse_stop::ParseError;
 use crate::part_name::PartName;
-use crate::read_types::{enclosed_at, refused, type_at};
+use crate::read_types::{enclosed_size_at, refused, type_at};
 use crate::types::TypeId;
 use giop_tokens::{
-    Mark, SigFaultKind, Token, TokenError, identifier, left_of, mark, next, repository_id,
-    starts_with_mark,
+    Mark, SigFaultKind, Token, TokenError, identifier, mark, next, octets_left_at_token,
+    repository_id, starts_with_mark,
 };
 use std::alloc::Global;
 
@@ -41,19 +41,19 @@ pub(crate) fn is_among(seen: &[&[u8]], name: &[u8]) -> bool
     seen.iter().any(|other| *other == name)
 }
 
-/// A name that isn't in `seen`, which may have `most` names. `third` says whether the file is of
+/// A name that isn't in `seen`, which may have `most` names. `version_3` says whether the file is of
 /// version 3.
 #[tactic(auto, unfolding(crate::specs::ItemReading::new_name_at))]
 pub(crate) fn new_name_at<'a>(
-    third: bool,
+    version_3: bool,
     most: usize,
     seen: &[&[u8]],
     text: &'a [u8],
 ) -> Result<(&'a [u8], &'a [u8]), ParseError>
     ensures { Gives (λ x. (x.0.now, x.1.now)) result
-        (new_name_at third most (map (λ n. n.now) seen.now) text.now) }
+        (new_name_at version_3 most (map (λ n. n.now) seen.now) text.now) }
 {
-    let (name, rest) = identifier(third, text)?;
+    let (name, rest) = identifier(version_3, text)?;
     if is_among(seen, name) {
         return Err(ParseError::Refused(refused(SigFaultKind::Duplicate, text)));
     }
@@ -65,18 +65,18 @@ pub(crate) fn new_name_at<'a>(
 
 /// The new name of an enum, struct, union or exception. `count` of these are declared. `word` is
 /// the first word of a struct or union.
-#[tactic(auto, unfolding(crate::specs::ItemReading::declared_at))]
-pub(crate) fn declared_at<'a>(
+#[tactic(auto, unfolding(crate::specs::ItemReading::declared_name_at))]
+pub(crate) fn declared_name_at<'a>(
     draft: &Draft,
     word: Option<TypeWord>,
     count: u32,
     text: &'a [u8],
 ) -> Result<(&'a [u8], &'a [u8]), ParseError>
     ensures { Gives (λ x. (x.0.now, x.1.now)) result
-        (declared_at draft.now word count text.now) }
+        (declared_name_at draft.now word count text.now) }
 {
-    let (name, rest) = identifier(draft.is_third(), text)?;
-    if draft.is_taken(word, name) {
+    let (name, rest) = identifier(draft.is_version_3(), text)?;
+    if draft.is_name_taken(word, name) {
         return Err(ParseError::Refused(refused(SigFaultKind::Duplicate, text)));
     }
     if count >= DECLARED_MAX {
@@ -87,10 +87,10 @@ pub(crate) fn declared_at<'a>(
 
 /// How many lengths of arrays an item may have whose name ends before this text: in a file of
 /// version 3 any number, and in an older one a single length.
-fn most_lengths(third: bool, text: &[u8]) -> usize
-    ensures { result ≡ most_lengths third text.now }
+fn most_lengths(version_3: bool, text: &[u8]) -> usize
+    ensures { result ≡ most_lengths version_3 text.now }
 {
-    if third { text.len() } else { 1 }
+    if version_3 { text.len() } else { 1 }
 }
 
 /// The lengths of arrays that come next, at most `most`, the outermost first; and the rest.
@@ -105,7 +105,7 @@ fn lengths_at<'a>(
     let mut lengths = Vec::new(alloc);
     let mut rest = text;
     for _ in 0..most {
-        let (length, after) = enclosed_at(Mark::OpenBracket, Mark::CloseBracket, rest)?;
+        let (length, after) = enclosed_size_at(Mark::OpenBracket, Mark::CloseBracket, rest)?;
         let Some(n) = length else {
             return Ok((lengths, after));
         };
@@ -116,7 +116,7 @@ fn lengths_at<'a>(
 }
 
 /// Adds arrays of these lengths in each other, the innermost first.
-fn arrays_of(
+fn add_arrays(
     draft: &mut Draft,
     lengths: &mut Vec<u32>,
     element: TypeId,
@@ -146,11 +146,11 @@ pub(crate) fn item_at<'a>(
         (item_at most (map (λ n. n.now) seen.now) draft.old text.now) }
 {
     draft.laws();
-    let third = draft.is_third();
+    let version_3 = draft.is_version_3();
     let (element, rest) = type_at(alloc, draft, text)?;
-    let (name, rest) = new_name_at(third, most, seen, rest)?;
-    let (mut lengths, rest) = lengths_at(alloc, most_lengths(third, rest), rest)?;
-    let t = arrays_of(draft, &mut lengths, element)?;
+    let (name, rest) = new_name_at(version_3, most, seen, rest)?;
+    let (mut lengths, rest) = lengths_at(alloc, most_lengths(version_3, rest), rest)?;
+    let t = add_arrays(draft, &mut lengths, element)?;
     Ok((name, t, rest))
 }
 
@@ -238,9 +238,9 @@ fn members_at<'a>(
 }
 
 /// A list that doesn't end at once.
-#[tactic(auto, unfolding(crate::specs::ItemReading::filled_at))]
-pub(crate) fn filled_at(text: &[u8]) -> Result<&[u8], ParseError>
-    ensures { Gives (λ x. x.now) result (filled_at text.now) }
+#[tactic(auto, unfolding(crate::specs::ItemReading::non_empty_list_at))]
+pub(crate) fn non_empty_list_at(text: &[u8]) -> Result<&[u8], ParseError>
+    ensures { Gives (λ x. x.now) result (non_empty_list_at text.now) }
 {
     match starts_with_mark(text, Mark::CloseBrace)? {
         None => Ok(text),
@@ -258,7 +258,7 @@ pub(crate) fn identity_at<'a>(
     ensures { Gives (λ x. (option_map (λ id. id.now) x.0, x.1.now)) result
         (identity_at draft.now text.now) }
 {
-    if !draft.is_third() {
+    if !draft.is_version_3() {
         return Ok((None, text));
     }
     let (token, rest) = next(text)?;
@@ -273,12 +273,16 @@ pub(crate) fn identity_at<'a>(
 
 /// The end of a declaration from whose name on `at` octets are left: a semicolon. The declaration
 /// is refused if it made a type that is too deep.
-#[tactic(auto, unfolding(crate::specs::ItemReading::end_of))]
-pub(crate) fn end_of<'a>(draft: &Draft, at: usize, text: &'a [u8]) -> Result<&'a [u8], ParseError>
-    ensures { Gives (λ x. (draft.now, x.now)) result (end_of at draft.now text.now) }
+#[tactic(auto, unfolding(crate::specs::ItemReading::declaration_end_at))]
+pub(crate) fn declaration_end_at<'a>(
+    draft: &Draft,
+    at: usize,
+    text: &'a [u8],
+) -> Result<&'a [u8], ParseError>
+    ensures { Gives (λ x. (draft.now, x.now)) result (declaration_end_at at draft.now text.now) }
 {
     let rest = mark(text, Mark::Semicolon)?;
-    if draft.depth() > DEPTH_MAX {
+    if draft.deepest() > DEPTH_MAX {
         return Err(ParseError::Refused(TokenError {
             kind: SigFaultKind::Depth,
             left: at,
@@ -310,8 +314,8 @@ pub(crate) fn type_end_at<'a>(
         text.now) }
 {
     let t = draft.add(entry)?;
-    draft.name_type(name, id, t)?;
-    end_of(draft, at, text)
+    draft.declare_type(name, id, t)?;
+    declaration_end_at(draft, at, text)
 }
 
 /// Whether a declaration ends after its name, and so announces it. It may do so in a file of
@@ -320,7 +324,7 @@ pub(crate) fn type_end_at<'a>(
 pub(crate) fn announces_at(draft: &Draft, text: &[u8]) -> Result<bool, ParseError>
     ensures { Gives (λ x. x) result (announces_at draft.now text.now) }
 {
-    Ok(draft.is_third() && starts_with_mark(text, Mark::Semicolon)?.is_some())
+    Ok(draft.is_version_3() && starts_with_mark(text, Mark::Semicolon)?.is_some())
 }
 
 /// The end of an announcement. Its name is at the front of `text`, and must not be announced yet.
@@ -333,7 +337,7 @@ pub(crate) fn announcement_at<'a>(
     rest: &'a [u8],
 ) -> Result<&'a [u8], ParseError>
     requires short { length name.now ≤ 64 }
-    requires third { is_third draft.old.names ≡ true }
+    requires third { is_version_3 draft.old.names ≡ true }
     ensures { Gives (λ x. (draft.new, x.now)) result
         (announcement_at draft.old word text.now name.now rest.now) }
 {
@@ -341,7 +345,7 @@ pub(crate) fn announcement_at<'a>(
         return Err(ParseError::Refused(refused(SigFaultKind::Duplicate, text)));
     }
     draft.announce(name, word)?;
-    end_of(draft, left_of(text), rest)
+    declaration_end_at(draft, octets_left_at_token(text), rest)
 }
 
 /// A struct, after its name, which is at the front of `text`.
@@ -362,9 +366,16 @@ fn structure_after<'a>(
     draft.laws();
     let (id, rest) = identity_at(draft, rest)?;
     let rest = mark(rest, Mark::OpenBrace)?;
-    let rest = filled_at(rest)?;
+    let rest = non_empty_list_at(rest)?;
     let (parts, rest) = members_at(alloc, draft, rest)?;
-    type_end_at(draft, left_of(text), name, id, Entry::Members(parts), rest)
+    type_end_at(
+        draft,
+        octets_left_at_token(text),
+        name,
+        id,
+        Entry::Members(parts),
+        rest,
+    )
 }
 
 /// A struct, or its announcement, after its first word.
@@ -377,7 +388,7 @@ pub(crate) fn structure_at<'a>(
     ensures { Gives (λ x. (draft.new, x.now)) result (structure_at draft.old text.now) }
 {
     let count = draft.types_declared();
-    let (name, rest) = declared_at(draft, Some(TypeWord::Struct), count, text)?;
+    let (name, rest) = declared_name_at(draft, Some(TypeWord::Struct), count, text)?;
     if announces_at(draft, rest)? {
         return announcement_at(draft, TypeWord::Struct, text, name, rest);
     }
@@ -405,14 +416,14 @@ pub(crate) fn exception_at<'a>(
 ) -> Result<&'a [u8], ParseError>
     ensures { Gives (λ x. (draft.new, x.now)) result (exception_at draft.old text.now) }
 {
-    let at = left_of(text);
+    let at = octets_left_at_token(text);
     draft.laws();
     let count = draft.exceptions_declared();
-    let (name, rest) = declared_at(draft, None, count, text)?;
+    let (name, rest) = declared_name_at(draft, None, count, text)?;
     let (repository, rest) = new_repository_at(draft, rest)?;
     let rest = mark(rest, Mark::OpenBrace)?;
     let (parts, rest) = members_at(alloc, draft, rest)?;
     let t = draft.add(Entry::Members(parts))?;
-    draft.raise(name, repository, t)?;
-    end_of(draft, at, rest)
+    draft.declare_exception(name, repository, t)?;
+    declaration_end_at(draft, at, rest)
 }

@@ -3,9 +3,9 @@ ghost use Rattle.std.specs.Prelude.{◌≡◌, ◌<◌, [], length, Ok, IfOk, If
 ghost use Rattle.std.specs.Option.{option_map};
 ghost use Rattle.giop_sig.specs.Outcomes.{Gives, refused};
 ghost use Rattle.giop_sig.specs.Scopes.{with_node, sequence_node};
-ghost use Rattle.giop_sig.specs.ScopeViews.{CanStand, IsElement, IsKnown};
+ghost use Rattle.giop_sig.specs.ScopeViews.{CanBeInner, IsElement, IsKnown};
 ghost use Rattle.giop_sig.specs.Repeats.{in_steps};
-ghost use Rattle.giop_sig.specs.TypeReading.{size_at, enclosed_at, most_at, base_of, text_at, wide_text_at, after_element, after_held, closed_by, named_type, leaf_at, opener_at, openers_step, opens_element, element_after, too_many_openers, all_closed, type_at};
+ghost use Rattle.giop_sig.specs.TypeReading.{size_at, enclosed_size_at, comma_size_at, primitive_of_word, text_at, wide_text_at, sequence_end, encapsulation_end, opener_closed, named_type, leaf_at, opener_at, openers_step, opens_element, element_after, too_many_openers, all_openers_closed, type_at};
 
 use crate::draft::Draft;
 use crate::entries::Entry;
@@ -13,7 +13,7 @@ use crate::numbers;
 use crate::parse_stop::ParseError;
 use crate::types::TypeId;
 use giop_tokens::{
-    Mark, SigFaultKind, TokenError, is_reserved, left_of, mark, misplaced, number,
+    Mark, SigFaultKind, TokenError, is_reserved, mark, misplaced, number, octets_left_at_token,
     starts_with_mark, word,
 };
 use std::alloc::Global;
@@ -33,7 +33,7 @@ pub(crate) fn refused(kind: SigFaultKind, text: &[u8]) -> TokenError
 {
     TokenError {
         kind,
-        left: left_of(text),
+        left: octets_left_at_token(text),
     }
 }
 
@@ -54,13 +54,13 @@ pub(crate) fn size_at(text: &[u8]) -> Result<(u32, &[u8]), ParseError>
 }
 
 /// A size between two marks, if the first mark comes next.
-#[tactic(auto, unfolding(crate::specs::TypeReading::enclosed_at))]
-pub(crate) fn enclosed_at(
+#[tactic(auto, unfolding(crate::specs::TypeReading::enclosed_size_at))]
+pub(crate) fn enclosed_size_at(
     before: Mark,
     close: Mark,
     text: &[u8],
 ) -> Result<(Option<u32>, &[u8]), ParseError>
-    ensures gives { Gives (λ x. (x.0, x.1.now)) result (enclosed_at before close text.now) }
+    ensures gives { Gives (λ x. (x.0, x.1.now)) result (enclosed_size_at before close text.now) }
     ensures some { IfOk result (λ x. IfSome x.0 (λ n. 0 < n)) }
 {
     match starts_with_mark(text, before)? {
@@ -74,9 +74,9 @@ pub(crate) fn enclosed_at(
 }
 
 /// A size after a comma, if a comma comes next.
-#[tactic(auto, unfolding(crate::specs::TypeReading::most_at))]
-fn most_at(text: &[u8]) -> Result<(Option<u32>, &[u8]), ParseError>
-    ensures { Gives (λ x. (x.0, x.1.now)) result (most_at text.now) }
+#[tactic(auto, unfolding(crate::specs::TypeReading::comma_size_at))]
+fn comma_size_at(text: &[u8]) -> Result<(Option<u32>, &[u8]), ParseError>
+    ensures { Gives (λ x. (x.0, x.1.now)) result (comma_size_at text.now) }
 {
     match starts_with_mark(text, Mark::Comma)? {
         None => Ok((None, text)),
@@ -88,8 +88,8 @@ fn most_at(text: &[u8]) -> Result<(Option<u32>, &[u8]), ParseError>
 }
 
 /// The primitive type of a word.
-fn base_of(word: &[u8]) -> Option<TypeId>
-    ensures { option_map (λ t. t.0) result ≡ base_of word.now }
+fn primitive_of_word(word: &[u8]) -> Option<TypeId>
+    ensures { option_map (λ t. t.0) result ≡ primitive_of_word word.now }
 {
     if word == b"octet".as_slice() {
         Some(TypeId(0))
@@ -123,7 +123,7 @@ fn base_of(word: &[u8]) -> Option<TypeId>
 fn text_at<'a>(draft: &mut Draft, text: &'a [u8]) -> Result<(TypeId, &'a [u8]), ParseError>
     ensures { Gives (λ x. (draft.new, x.0.0, x.1.now)) result (text_at draft.old text.now) }
 {
-    let (bound, rest) = enclosed_at(Mark::OpenAngle, Mark::CloseAngle, text)?;
+    let (bound, rest) = enclosed_size_at(Mark::OpenAngle, Mark::CloseAngle, text)?;
     match bound {
         None => Ok((STRING, rest)),
         Some(_) => Ok((draft.add(Entry::Text(bound))?, rest)),
@@ -135,7 +135,7 @@ fn text_at<'a>(draft: &mut Draft, text: &'a [u8]) -> Result<(TypeId, &'a [u8]), 
 fn wide_text_at<'a>(draft: &Draft, text: &'a [u8]) -> Result<(TypeId, &'a [u8]), ParseError>
     ensures { Gives (λ x. (draft.now, x.0.0, x.1.now)) result (wide_text_at draft.now text.now) }
 {
-    let (_, rest) = enclosed_at(Mark::OpenAngle, Mark::CloseAngle, text)?;
+    let (_, rest) = enclosed_size_at(Mark::OpenAngle, Mark::CloseAngle, text)?;
     Ok((WIDE_STRING, rest))
 }
 
@@ -152,7 +152,7 @@ fn named_type<'a>(
     ensures { Gives (λ x. (draft.now, x.0.0, x.1.now)) result
         (named_type element draft.now text.now name.now rest.now) }
 {
-    if is_reserved(draft.is_third(), name) {
+    if is_reserved(draft.is_version_3(), name) {
         return Err(ParseError::Refused(misplaced(text)));
     }
     if name.len() > NAME_MAX {
@@ -166,7 +166,11 @@ fn named_type<'a>(
 
 /// Adds a sequence of elements of a type. A sequence of octets has an entry of its own, and so has
 /// one of a type that is announced.
-fn sequence_of(draft: &mut Draft, bound: Option<u32>, element: TypeId) -> Result<TypeId, ParseError>
+fn add_sequence_type(
+    draft: &mut Draft,
+    bound: Option<u32>,
+    element: TypeId,
+) -> Result<TypeId, ParseError>
     requires { IsElement draft.old.table.version draft.old.table.types element.0 }
     ensures { Gives (λ t. (draft.new, t.0)) result
         (Ok (with_node draft.old (sequence_node draft.old.table.types bound element.0))) }
@@ -181,30 +185,30 @@ fn sequence_of(draft: &mut Draft, bound: Option<u32>, element: TypeId) -> Result
 }
 
 /// What comes after the element type of a sequence: perhaps a bound, and the closing mark.
-fn after_element<'a>(
+fn sequence_end<'a>(
     draft: &mut Draft,
     element: TypeId,
     text: &'a [u8],
 ) -> Result<(TypeId, &'a [u8]), ParseError>
     requires { IsElement draft.old.table.version draft.old.table.types element.0 }
     ensures { Gives (λ x. (draft.new, x.0.0, x.1.now)) result
-        (after_element (draft.old, element.0, text.now)) }
+        (sequence_end (draft.old, element.0, text.now)) }
 {
-    let (bound, rest) = most_at(text)?;
+    let (bound, rest) = comma_size_at(text)?;
     let rest = mark(rest, Mark::CloseAngle)?;
-    let t = sequence_of(draft, bound, element)?;
+    let t = add_sequence_type(draft, bound, element)?;
     Ok((t, rest))
 }
 
 /// What comes after the type in an encapsulation: the closing mark.
-fn after_held<'a>(
+fn encapsulation_end<'a>(
     draft: &mut Draft,
     held: TypeId,
     text: &'a [u8],
 ) -> Result<(TypeId, &'a [u8]), ParseError>
     requires { IsKnown draft.old.table.types held.0 }
     ensures { Gives (λ x. (draft.new, x.0.0, x.1.now)) result
-        (after_held (draft.old, held.0, text.now)) }
+        (encapsulation_end (draft.old, held.0, text.now)) }
 {
     let rest = mark(text, Mark::CloseAngle)?;
     let t = draft.add(Entry::Encapsulation(held))?;
@@ -223,25 +227,25 @@ fn leaf_at<'a>(
         (leaf_at element draft.old text.now) }
 {
     let (name, rest) = word(text)?;
-    if let Some(base) = base_of(name) {
+    if let Some(base) = primitive_of_word(name) {
         return Ok((base, rest));
     }
     if name == b"string".as_slice() {
         return text_at(draft, rest);
     }
     if name == b"Object".as_slice() {
-        return Ok((draft.reference(), rest));
+        return Ok((draft.reference_type(), rest));
     }
-    if draft.is_third() && name == b"any".as_slice() {
+    if draft.is_version_3() && name == b"any".as_slice() {
         return Ok((TypeId(numbers::ANY), rest));
     }
-    if draft.is_third() && name == b"TypeCode".as_slice() {
+    if draft.is_version_3() && name == b"TypeCode".as_slice() {
         return Ok((TypeId(numbers::TYPE_CODE), rest));
     }
-    if draft.is_third() && name == b"wchar".as_slice() {
+    if draft.is_version_3() && name == b"wchar".as_slice() {
         return Ok((TypeId(numbers::WIDE_CHAR), rest));
     }
-    if draft.is_third() && name == b"wstring".as_slice() {
+    if draft.is_version_3() && name == b"wstring".as_slice() {
         return wide_text_at(draft, rest);
     }
     named_type(draft, element, text, name, rest)
@@ -325,41 +329,41 @@ fn element_after(openers: &[Opener]) -> bool
 }
 
 /// What closes a type with another one in it, after that one.
-#[tactic(auto, unfolding(crate::specs::TypeReading::closed_by))]
-fn closed_by<'a>(
+#[tactic(auto, unfolding(crate::specs::TypeReading::opener_closed))]
+fn opener_closed<'a>(
     draft: &mut Draft,
     opener: Opener,
     inner: TypeId,
     text: &'a [u8],
 ) -> Result<(TypeId, &'a [u8]), ParseError>
-    requires { CanStand (opens_element opener) draft.old.table.version draft.old.table.types
+    requires { CanBeInner (opens_element opener) draft.old.table.version draft.old.table.types
         inner.0 }
     ensures { Gives (λ x. (draft.new, x.0.0, x.1.now)) result
-        (closed_by opener (draft.old, inner.0, text.now)) }
+        (opener_closed opener (draft.old, inner.0, text.now)) }
 {
     match opener {
-        Opener::Sequence => after_element(draft, inner, text),
-        Opener::Encapsulation => after_held(draft, inner, text),
+        Opener::Sequence => sequence_end(draft, inner, text),
+        Opener::Encapsulation => encapsulation_end(draft, inner, text),
     }
 }
 
 /// What closes all types that were opened, after the innermost one.
-fn all_closed<'a>(
+fn all_openers_closed<'a>(
     draft: &mut Draft,
     openers: &mut Vec<Opener>,
     innermost: TypeId,
     text: &'a [u8],
 ) -> Result<(TypeId, &'a [u8]), ParseError>
-    requires { CanStand (element_after openers.old.items) draft.old.table.version
+    requires { CanBeInner (element_after openers.old.items) draft.old.table.version
         draft.old.table.types innermost.0 }
     ensures { Gives (λ x. (draft.new, x.0.0, x.1.now)) result
-        (all_closed openers.old.items (draft.old, innermost.0, text.now)) }
+        (all_openers_closed openers.old.items (draft.old, innermost.0, text.now)) }
 {
     let mut t = innermost;
     let mut rest = text;
     while let Some(opener) = openers.pop() {
         draft.laws();
-        (t, rest) = closed_by(draft, opener, t, rest)?;
+        (t, rest) = opener_closed(draft, opener, t, rest)?;
     }
     Ok((t, rest))
 }
@@ -375,5 +379,5 @@ pub(crate) fn type_at<'a>(
     draft.laws();
     let (mut openers, rest) = openers_at(alloc, draft, text)?;
     let (innermost, rest) = leaf_at(draft, element_after(openers.as_slice()), rest)?;
-    all_closed(draft, &mut openers, innermost, rest)
+    all_openers_closed(draft, &mut openers, innermost, rest)
 }

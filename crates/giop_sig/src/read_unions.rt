@@ -5,11 +5,11 @@ ghost use Rattle.std.specs.Map.{lookup};
 ghost use Rattle.std.specs.Str.{bytes_eq};
 ghost use Rattle.giop_sig.specs.Outcomes.{Gives};
 ghost use Rattle.giop_sig.specs.Table.{node_at, union as union_node};
-ghost use Rattle.giop_sig.specs.Scopes.{is_third, label_number, part};
+ghost use Rattle.giop_sig.specs.Scopes.{is_version_3, label_number, part};
 ghost use Rattle.giop_sig.specs.Views.{node_view};
 ghost use Rattle.giop_sig.specs.Labels.{value_view, cases_view};
 ghost use Rattle.giop_sig.specs.Repeats.{in_steps};
-ghost use Rattle.giop_sig.specs.UnionReading.{same_mark, number_of_value, unseen_label, label_at, begins_label, labels_step, too_many_labels, labels_at, no_cases, chosen, with_case, case_at, cases_step, too_many_cases, cases_at, can_switch, switch_at, union_at, union_after};
+ghost use Rattle.giop_sig.specs.UnionReading.{same_mark, number_of_value, unseen_label, label_at, begins_label, labels_step, too_many_labels, labels_at, no_cases, first_default_case, with_case, case_at, cases_step, too_many_cases, cases_at, can_switch, switch_at, union_at, union_after};
 
 use crate::announced::TypeWord;
 use crate::cases::UnionCases;
@@ -18,14 +18,15 @@ use crate::entries::{CaseEntry, Entry};
 use crate::labels::{LabelValue, label_number, value_at};
 use crate::parse_stop::ParseError;
 use crate::read_items::{
-    announcement_at, announces_at, declared_at, filled_at, identity_at, item_at, part_of,
-    type_end_at,
+    announcement_at, announces_at, declared_name_at, identity_at, item_at, non_empty_list_at,
+    part_of, type_end_at,
 };
 use crate::read_types::{refused, type_at};
 use crate::types::{Selected, TypeId};
 use giop_cdr::{Number, Prim};
 use giop_tokens::{
-    Mark, SigFaultKind, keyword, left_of, mark, misplaced, starts_with_keyword, starts_with_mark,
+    Mark, SigFaultKind, keyword, mark, misplaced, octets_left_at_token, starts_with_keyword,
+    starts_with_mark,
 };
 use std::alloc::Global;
 
@@ -47,7 +48,7 @@ struct Cases<'a> {
 }
 
 /// The value of the discriminator's type that the value of a label names.
-fn number_in(draft: &Draft, switch: TypeId, value: LabelValue<'_>) -> Option<Number>
+fn label_value_number(draft: &Draft, switch: TypeId, value: LabelValue<'_>) -> Option<Number>
     ensures { result ≡ label_number (node_at draft.now.table switch.0) (value_view value.entry) }
 {
     match draft.entry(switch) {
@@ -64,10 +65,11 @@ fn number_of_value<'a>(
     text: &'a [u8],
 ) -> Result<(Option<Number>, &'a [u8]), ParseError>
     ensures { Gives (λ x. (x.0, x.1.now)) result
-        (number_of_value (is_third draft.now.names) (node_at draft.now.table switch.0) text.now) }
+        (number_of_value (is_version_3 draft.now.names) (node_at draft.now.table switch.0)
+        text.now) }
 {
-    let (value, rest) = value_at(draft.is_third(), text)?;
-    match number_in(draft, switch, value) {
+    let (value, rest) = value_at(draft.is_version_3(), text)?;
+    match label_value_number(draft, switch, value) {
         None => Err(ParseError::Refused(refused(SigFaultKind::Label, text))),
         Some(n) => Ok((Some(n), rest)),
     }
@@ -107,7 +109,8 @@ fn label_at<'a>(
     text: &'a [u8],
 ) -> Result<(Option<Number>, &'a [u8]), ParseError>
     ensures { Gives (λ x. (x.0, x.1.now)) result
-        (label_at (is_third draft.now.names) (node_at draft.now.table switch.0) seen.now text.now) }
+        (label_at (is_version_3 draft.now.names)
+        (node_at draft.now.table switch.0) seen.now text.now) }
 {
     match starts_with_keyword(text, b"case")? {
         Some(inner) => {
@@ -145,7 +148,7 @@ fn labels_step<'a>(
     text: &'a [u8],
 ) -> Result<(bool, bool, &'a [u8]), ParseError>
     ensures { Gives (λ x. (x.0, (seen.new.items, own.new.items, x.1, x.2.now))) result
-        (labels_step (is_third draft.now.names) (node_at draft.now.table switch.0)
+        (labels_step (is_version_3 draft.now.names) (node_at draft.now.table switch.0)
         (seen.old.items, own.old.items, default, text.now)) }
 {
     if !begins_label(text)? {
@@ -164,7 +167,7 @@ fn labels_step<'a>(
 
 /// Labels, as long as they come. Answers their numbers, whether the default is among them, and the
 /// rest.
-fn some_labels<'a>(
+fn labels_while_any<'a>(
     alloc: Global,
     draft: &Draft,
     switch: TypeId,
@@ -173,7 +176,7 @@ fn some_labels<'a>(
 ) -> Result<(Vec<Number>, bool, &'a [u8]), ParseError>
     ensures { Gives (λ x. (seen.new.items, x.0.items, x.1, x.2.now)) result
         (in_steps
-        (labels_step (is_third draft.now.names) (node_at draft.now.table switch.0))
+        (labels_step (is_version_3 draft.now.names) (node_at draft.now.table switch.0))
         too_many_labels 1025
         (seen.old.items, [], false, text.now)) }
 {
@@ -201,20 +204,20 @@ fn labels_at<'a>(
     text: &'a [u8],
 ) -> Result<(Vec<Number>, bool, &'a [u8]), ParseError>
     ensures { Gives (λ x. (seen.new.items, x.0.items, x.1, x.2.now)) result
-        (labels_at (is_third draft.now.names) (node_at draft.now.table switch.0)
+        (labels_at (is_version_3 draft.now.names) (node_at draft.now.table switch.0)
         seen.old.items text.now) }
 {
     if !begins_label(text)? {
         return Err(ParseError::Refused(misplaced(text)));
     }
-    some_labels(alloc, draft, switch, seen, text)
+    labels_while_any(alloc, draft, switch, seen, text)
 }
 
 /// What is selected if no label is the number, after the case at an index: the first case with the
 /// default.
-fn chosen(otherwise: Selected, default: bool, index: usize) -> Selected
+fn first_default_case(otherwise: Selected, default: bool, index: usize) -> Selected
     requires { index < 2 ^ 32 }
-    ensures { result ≡ chosen otherwise default index }
+    ensures { result ≡ first_default_case otherwise default index }
 {
     match otherwise {
         Selected::Nothing if default => Selected::Case(index as u32),
@@ -268,7 +271,7 @@ fn add_case<'a>(
     ensures room { OnOk result (length cases.new.names.items ≤ length cases.old.names.items + 1) }
 {
     let part = part_of(alloc, name, type_id)?;
-    cases.otherwise = chosen(cases.otherwise, default, cases.names.len());
+    cases.otherwise = first_default_case(cases.otherwise, default, cases.names.len());
     cases.names.push(name)?;
     cases.cases.push(CaseEntry { labels, part })?;
     Ok(())
@@ -316,7 +319,7 @@ fn cases_step<'a>(
 }
 
 /// Cases up to the closing mark.
-fn some_cases<'a>(
+fn cases_until_close<'a>(
     alloc: Global,
     draft: &mut Draft,
     switch: TypeId,
@@ -353,11 +356,11 @@ fn cases_at<'a>(
     ensures { Gives (λ x. (draft.new, cases_view x.0, x.1.now)) result
         (cases_at switch.0 draft.old text.now) }
 {
-    some_cases(alloc, draft, switch, filled_at(text)?)
+    cases_until_close(alloc, draft, switch, non_empty_list_at(text)?)
 }
 
 /// The entry of a union with a discriminator of this type.
-fn entry_of(alloc: Global, switch: TypeId, cases: Cases<'_>) -> Result<Entry, ParseError>
+fn union_entry(alloc: Global, switch: TypeId, cases: Cases<'_>) -> Result<Entry, ParseError>
     ensures ok { IfOk result (λ entry. node_view entry
         ≡ union_node switch.0 (cases_view cases.entry).cases (cases_view cases.entry).otherwise) }
     ensures err { IfErr result (λ stop. stop ≡ ParseError.Memory) }
@@ -389,8 +392,8 @@ fn union_after<'a>(
     let rest = mark(rest, Mark::CloseParenthesis)?;
     let rest = mark(rest, Mark::OpenBrace)?;
     let (cases, rest) = cases_at(alloc, draft, switch, rest)?;
-    let entry = entry_of(alloc, switch, cases)?;
-    type_end_at(draft, left_of(text), name, id, entry, rest)
+    let entry = union_entry(alloc, switch, cases)?;
+    type_end_at(draft, octets_left_at_token(text), name, id, entry, rest)
 }
 
 /// A union, or its announcement, after its first word. Answers the rest.
@@ -403,7 +406,7 @@ pub(crate) fn union<'a>(
     ensures { Gives (λ x. (draft.new, x.now)) result (union_at draft.old text.now) }
 {
     let count = draft.types_declared();
-    let (name, rest) = declared_at(draft, Some(TypeWord::Union), count, text)?;
+    let (name, rest) = declared_name_at(draft, Some(TypeWord::Union), count, text)?;
     if announces_at(draft, rest)? {
         return announcement_at(draft, TypeWord::Union, text, name, rest);
     }

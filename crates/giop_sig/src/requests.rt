@@ -4,7 +4,7 @@ ghost use Rattle.std.specs.HashMap.{IsUnique};
 ghost use Rattle.std.specs.Option.{option_copied, option_map};
 ghost use Rattle.std.specs.Fmt.{decimal};
 ghost use Rattle.giop_sig.specs.Table.{asked_number};
-ghost use Rattle.giop_sig.specs.RequestList.{lines, words, IsName, IsAsked, IsEntry, IsEntryLine, line_of, Lists, IsRefusedAs, IsOf, kept_of, kept_operation, found_of, third_in, same_asked, asked_by, Entry, joined};
+ghost use Rattle.giop_sig.specs.RequestList.{lines, words, IsName, IsAsked, IsEntry, IsEntryLine, line_of, Lists, IsRefusedAs, AgreesWithList, operations_by_id, kept_operation, with_found_operation, allows_third_word, same_asked, common_asked_by_id, Entry, merged_asked};
 ghost use Rattle.giop_sig.specs.RequestViews.{words_view, asked_view};
 
 use crate::catalogue::Catalogue;
@@ -38,7 +38,7 @@ fn first_line(text: &[u8]) -> Option<(&[u8], &[u8])>
 }
 
 /// The number below 2^32 that is spelled like this in decimal.
-fn number(digits: &[u8]) -> Option<u32>
+fn decimal_number(digits: &[u8]) -> Option<u32>
     ensures { MatchOption result
         ((n : ℕ) → n < 2 ^ 32 → digits.now ≡ decimal n → ⊥)
         (λ n. digits.now ≡ decimal n) }
@@ -75,12 +75,12 @@ struct Words<'a> {
     interface: Option<&'a [u8]>,
 }
 
-/// The words of a text, with a space between two of them. `third` says whether there may be two.
-fn words_of(text: &[u8], third: bool) -> Option<Words<'_>>
+/// The words of a text, with a space between two of them. `third_word` says whether there may be two.
+fn words_of(text: &[u8], third_word: bool) -> Option<Words<'_>>
     ensures { MatchOption result
         ((name : List ℕ) (id : Option (List ℕ)) → text.now ≡ words name id
-        → IsAsked third (record { name = name; interface = id }) → ⊥)
-        (λ w. IsAsked third (words_view w)
+        → IsAsked third_word (record { name = name; interface = id }) → ⊥)
+        (λ w. IsAsked third_word (words_view w)
         × (text.now ≡ words (words_view w).name (words_view w).interface)) }
 {
     match text.iter().position(|b| *b == b' ') {
@@ -95,7 +95,7 @@ fn words_of(text: &[u8], third: bool) -> Option<Words<'_>>
         }
         Some(space) => {
             let (name, id) = (&text[..space], &text[space + 1..]);
-            if !(third && is_name(name) && is_name(id)) {
+            if !(third_word && is_name(name) && is_name(id)) {
                 return None;
             }
             Some(Words {
@@ -106,20 +106,20 @@ fn words_of(text: &[u8], third: bool) -> Option<Words<'_>>
     }
 }
 
-/// The id and the words of the entry in a line. `third` says whether there may be an interface.
-fn entry(line: &[u8], third: bool) -> Option<(u32, Words<'_>)>
+/// The id and the words of the entry in a line. `third_word` says whether there may be an interface.
+fn line_entry(line: &[u8], third_word: bool) -> Option<(u32, Words<'_>)>
     ensures { MatchOption result
-        (¬ (IsEntryLine third line.now))
-        (λ x. IsEntry third (record { id = x.0; asked = words_view x.1 })
+        (¬ (IsEntryLine third_word line.now))
+        (λ x. IsEntry third_word (record { id = x.0; asked = words_view x.1 })
         × (line.now ≡ line_of (record { id = x.0; asked = words_view x.1 }))) }
 {
     let space = line.iter().position(|b| *b == b' ')?;
-    let id = number(&line[..space])?;
-    Some((id, words_of(&line[space + 1..], third)?))
+    let id = decimal_number(&line[..space])?;
+    Some((id, words_of(&line[space + 1..], third_word)?))
 }
 
 /// Whether these are the same words.
-fn is_same(a: &Words<'_>, b: &Words<'_>) -> bool
+fn have_same_words(a: &Words<'_>, b: &Words<'_>) -> bool
     ensures { result ≡ same_asked (words_view a.now) (words_view b.now) }
 {
     match (a.interface, b.interface) {
@@ -130,16 +130,16 @@ fn is_same(a: &Words<'_>, b: &Words<'_>) -> bool
 }
 
 /// The words that all entries of an id have, after one more entry. None if they differ.
-fn joined<'a>(kept: Option<&Option<Words<'a>>>, words: Words<'a>) -> Option<Words<'a>>
+fn merged_asked<'a>(kept: Option<&Option<Words<'a>>>, words: Words<'a>) -> Option<Words<'a>>
     ensures { option_map words_view result
-        ≡ joined (option_map (option_map words_view) (option_copied kept.entry))
+        ≡ merged_asked (option_map (option_map words_view) (option_copied kept.entry))
         (words_view words.entry) }
 {
     match kept {
         None => Some(words),
         Some(None) => None,
         Some(Some(kept)) => {
-            if is_same(kept, &words) {
+            if have_same_words(kept, &words) {
                 Some(*kept)
             } else {
                 None
@@ -150,8 +150,8 @@ fn joined<'a>(kept: Option<&Option<Words<'a>>>, words: Words<'a>) -> Option<Word
 
 /// A text is at most one list.
 pub fn one_list()
-    ensures { (third : Bool) (text : List ℕ) (es fs : List Entry)
-        → Lists third text es → Lists third text fs → es ≡ fs }
+    ensures { (third_word : Bool) (text : List ℕ) (es fs : List Entry)
+        → Lists third_word text es → Lists third_word text fs → es ≡ fs }
 {}
 
 /// Which operation the replies with an id answer.
@@ -179,20 +179,20 @@ impl Requests {
     pub fn parse(alloc: Global, text: &[u8], catalogue: &Catalogue) -> Result<Requests, ListFault>
         // The operations are those of the list in the text.
         ensures ok { IfOk result (λ kept.
-            (es : List Entry) × Lists (third_in catalogue.now) text.now es
-            × IsOf (asked_number catalogue.now) es kept) }
+            (es : List Entry) × Lists (allows_third_word catalogue.now) text.now es
+            × AgreesWithList (asked_number catalogue.now) es kept) }
         // A refusal is at the first line that is wrong, unless memory was refused.
         ensures err { IfErr result (λ f.
-            IsRefusedAs (third_in catalogue.now) text.now f.line f.kind) }
+            IsRefusedAs (allows_third_word catalogue.now) text.now f.line f.kind) }
         // The operations depend on the entries alone, so that a list that is read again gives the
         // same.
-        ensures same { (es : List Entry) → Lists (third_in catalogue.now) text.now es
-            → IfOk result (λ kept. kept ≡ kept_of (asked_number catalogue.now) es) }
+        ensures same { (es : List Entry) → Lists (allows_third_word catalogue.now) text.now es
+            → IfOk result (λ kept. kept ≡ operations_by_id (asked_number catalogue.now) es) }
         // A list is refused only if memory is.
-        ensures only { (es : List Entry) → Lists (third_in catalogue.now) text.now es
+        ensures only { (es : List Entry) → Lists (allows_third_word catalogue.now) text.now es
             → IfErr result (λ f. f.kind ≡ ListFaultKind.OutOfMemory) }
     {
-        read(alloc, text, catalogue)
+        read_list(alloc, text, catalogue)
     }
 
     /// The operation of an id: all entries of the id have the same name and the same interface or
@@ -212,15 +212,16 @@ impl Requests {
 }
 
 /// Reads a list.
-fn read(alloc: Global, text: &[u8], catalogue: &Catalogue) -> Result<Requests, ListFault>
+fn read_list(alloc: Global, text: &[u8], catalogue: &Catalogue) -> Result<Requests, ListFault>
     ensures ok { IfOk result (λ kept.
-        (es : List Entry) × Lists (third_in catalogue.now) text.now es
-        × IsOf (asked_number catalogue.now) es kept
-        × (kept ≡ kept_of (asked_number catalogue.now) es)) }
-    ensures err { IfErr result (λ f. IsRefusedAs (third_in catalogue.now) text.now f.line f.kind) }
+        (es : List Entry) × Lists (allows_third_word catalogue.now) text.now es
+        × AgreesWithList (asked_number catalogue.now) es kept
+        × (kept ≡ operations_by_id (asked_number catalogue.now) es)) }
+    ensures err { IfErr result (λ f. IsRefusedAs
+        (allows_third_word catalogue.now) text.now f.line f.kind) }
 {
     let asked = read_lines(alloc, text, catalogue.version() == THIRD_VERSION)?;
-    let table = look_up(alloc, &asked, catalogue)?;
+    let table = operations_of_ids(alloc, &asked, catalogue)?;
     Ok(Requests { table })
 }
 
@@ -228,12 +229,12 @@ fn read(alloc: Global, text: &[u8], catalogue: &Catalogue) -> Result<Requests, L
 fn read_lines(
     alloc: Global,
     text: &[u8],
-    third: bool,
+    third_word: bool,
 ) -> Result<IndexMap<u32, Option<Words<'_>>>, ListFault>
-    ensures ok { IfOk result (λ asked. (es : List Entry) × Lists third text.now es
-        × (map asked_view asked.entries ≡ asked_by es)) }
+    ensures ok { IfOk result (λ asked. (es : List Entry) × Lists third_word text.now es
+        × (map asked_view asked.entries ≡ common_asked_by_id es)) }
     ensures unique { IfOk result (λ asked. IsUnique nat_eq asked) }
-    ensures err { IfErr result (λ f. IsRefusedAs third text.now f.line f.kind) }
+    ensures err { IfErr result (λ f. IsRefusedAs third_word text.now f.line f.kind) }
 {
     if text.len() > TEXT_MAX {
         return Err(ListFault {
@@ -245,7 +246,7 @@ fn read_lines(
     let mut rest = text;
     let mut count: u32 = 0;
     while let Some((line, after)) = first_line(rest) {
-        let Some((id, words)) = entry(line, third) else {
+        let Some((id, words)) = line_entry(line, third_word) else {
             return Err(ListFault {
                 line: count + 1,
                 kind: ListFaultKind::Syntax,
@@ -257,7 +258,7 @@ fn read_lines(
                 kind: ListFaultKind::Limit,
             });
         }
-        let one = joined(asked.get(&id), words);
+        let one = merged_asked(asked.get(&id), words);
         asked.insert(id, one)?;
         count += 1;
         rest = after;
@@ -266,7 +267,7 @@ fn read_lines(
 }
 
 /// The operation with these words, if there are words.
-fn found(catalogue: &Catalogue, words: Option<Words<'_>>) -> Option<OpId>
+fn operation_with_words(catalogue: &Catalogue, words: Option<Words<'_>>) -> Option<OpId>
     ensures { option_map (λ o. o.0) result
         ≡ option_and_then (λ a. asked_number catalogue.now a.name a.interface)
         (option_map words_view words.entry) }
@@ -280,18 +281,19 @@ fn found(catalogue: &Catalogue, words: Option<Words<'_>>) -> Option<OpId>
 }
 
 /// Looks up the operation of each id.
-fn look_up(
+fn operations_of_ids(
     alloc: Global,
     asked: &IndexMap<u32, Option<Words<'_>>>,
     catalogue: &Catalogue,
 ) -> Result<IndexMap<u32, Option<OpId>>, ListFault>
     ensures ok { IfOk result (λ table. table.entries
-        ≡ map (found_of (asked_number catalogue.now)) (map asked_view asked.now.entries)) }
+        ≡ map (with_found_operation (asked_number catalogue.now))
+        (map asked_view asked.now.entries)) }
     ensures err { IfErr result (λ f. (f.line ≡ 0) × (f.kind ≡ ListFaultKind.OutOfMemory)) }
 {
     let mut table = IndexMap::new(alloc);
     for (id, words) in asked.iter() {
-        table.insert(*id, found(catalogue, *words))?;
+        table.insert(*id, operation_with_words(catalogue, *words))?;
     }
     Ok(table)
 }

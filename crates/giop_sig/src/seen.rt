@@ -2,15 +2,15 @@
 //! any nor the elements of a recursive sequence can have wide text.
 ghost use Rattle.std.specs.Prelude.{◌≡◌, ℕ, suc, ◌<◌, ◌≤◌, ◌++◌, ◌↔◌, List, false, codes, drop, length, IsTrue, IfSome, None};
 ghost use Rattle.std.specs.Option.{option_map};
-ghost use Rattle.giop_sig.specs.Types.{sequel, part_of, name_in, enum_name_in, switch_of, elements_fit, select_in, interpreted_in, shape_in, HasShape, HasMember, HasIndex, HasInner, IsUnion};
+ghost use Rattle.giop_sig.specs.Types.{sequel, part_of, name_in, enum_name_in, switch_of, elements_fit, select_in, interpreted_in, shape_in, HasShape, HasMember, HasIndex, HasSmallerPart, IsUnion};
 ghost use Rattle.giop_sig.specs.Fits.{IsFit, IsRoot};
 ghost use Rattle.giop_sig.specs.Interfaces.{IsInterfaceOf};
-ghost use Rattle.giop_sig.specs.Hearings.{HasPart, hearing_in, sequel_of, sign_is, signal_after, told_of};
-ghost use Rattle.giop_sig.specs.HeaderTypes.{header_number, header_type, fixed_number, fixed_type, IdStandsFirst, BeginsWithId, IsTable};
+ghost use Rattle.giop_sig.specs.Hearings.{HasPositiveIndex, inference_in, sequel_view, sign_view, signal_after, inferred_of_signal};
+ghost use Rattle.giop_sig.specs.HeaderTypes.{header_type_number, header_type, fixed_type_number, fixed_type, RequestIdStandsFirst, BeginsWithId, IsTable};
 ghost use Rattle.giop_sig.specs.Table.{node_at, shape_of, part_number, part_at, name_of, name_at, switch_at, selected, interface_in, has_keys, seen, is_narrow, in_version};
-ghost use Rattle.giop_sig.specs.Trees.{any_hearing, follows, part_number_in, tree, tree_at};
+ghost use Rattle.giop_sig.specs.Trees.{any_inference, can_be_value, part_number_in, tree, tree_at};
 
-use crate::builtin::{fixed_id, header_id};
+use crate::builtin::{fixed_type_id, header_type_id};
 use crate::catalogue::Catalogue;
 use crate::draft::THIRD_VERSION;
 use crate::entries::{Entry, EntryWithDepth};
@@ -26,27 +26,28 @@ pub struct SeenCatalogue<'a> {
     catalogue: &'a Catalogue,
     /// The entries of its types.
     entries: &'a [EntryWithDepth],
-    narrow: bool,
+    forbids_wide: bool,
 }
 
 impl<'a> Model for SeenCatalogue<'a> {
     ghost use Rattle.giop_sig.specs.Table.{Table, seen};
-    ghost use Rattle.giop_sig.specs.Views.{IsSeen};
+    ghost use Rattle.giop_sig.specs.Views.{IsTableWithEntries};
 
     ghost Value = { Table };
 
-    ghost view = { λ a. seen a.narrow a.catalogue.now };
+    ghost view = { λ a. seen a.forbids_wide a.catalogue.now };
 
-    ghost invariant = { λ a. IsSeen (seen a.narrow a.catalogue.now) a.entries.now };
+    ghost invariant = { λ a.
+        IsTableWithEntries (seen a.forbids_wide a.catalogue.now) a.entries.now };
 }
 
 impl Catalogue {
-    /// The catalogue as messages see it. `narrow` says that anys and recursive sequences can't hold
-    /// wide text, as in messages of 1.0 and 1.1.
+    /// The catalogue as messages see it. `forbids_wide` says that anys and recursive sequences can't
+    /// hold wide text, as in messages of 1.0 and 1.1.
     #[inline(always)]
-    pub fn seen(&self, narrow: bool) -> SeenCatalogue<'_>
-        ensures is { result ≡ seen narrow self.now }
-        ensures own { narrow ≡ false → result ≡ self.now }
+    pub fn seen(&self, forbids_wide: bool) -> SeenCatalogue<'_>
+        ensures is { result ≡ seen forbids_wide self.now }
+        ensures own { forbids_wide ≡ false → result ≡ self.now }
     {
         // They are read so that the prover knows what is true of each catalogue.
         let _types = &self.types;
@@ -54,7 +55,7 @@ impl Catalogue {
         SeenCatalogue {
             catalogue: self,
             entries: self.types.entries(),
-            narrow,
+            forbids_wide,
         }
     }
 
@@ -76,7 +77,7 @@ impl Catalogue {
 }
 
 impl<'a> SeenCatalogue<'a> {
-    ghost use Rattle.giop_sig.specs.Views.{node_view, IsSized};
+    ghost use Rattle.giop_sig.specs.Views.{node_view, HasCountableParts};
 
     /// What is true of each catalogue. This function does nothing, and is called for its contract.
     #[inline(always)]
@@ -100,7 +101,7 @@ impl<'a> SeenCatalogue<'a> {
     fn entry(&self, t: TypeId) -> &'a Entry
         requires { t.0 < length self.now.types }
         ensures node { node_view result.now ≡ node_at self.now t.0 }
-        ensures sized { IsSized result.now }
+        ensures sized { HasCountableParts result.now }
     {
         &self.entries[t.0 as usize].entry
     }
@@ -137,7 +138,7 @@ impl<'a> SeenCatalogue<'a> {
         requires led { shape_in (tree self.now t.0) ≡ Shape.Led → index ≤ length self.now.types }
         ensures number { result.0 ≡ part_number self.now t.0 index }
         ensures known { result.0 < length self.now.types }
-        ensures below { HasInner (shape_in (tree self.now t.0)) index → result.0 < t.0 }
+        ensures below { HasSmallerPart (shape_in (tree self.now t.0)) index → result.0 < t.0 }
         // A part has one level of room less than its whole. Only the parts of a union may differ
         // with the room.
         ensures rooms { (IsUnion (shape_in (tree self.now t.0)) → ⊥) → (n : ℕ) →
@@ -155,7 +156,7 @@ impl<'a> SeenCatalogue<'a> {
         ensures { result ≡ elements_fit (tree_at self.now (suc room) t.0) }
     {
         match self.entry(t) {
-            Entry::Recursive(_, element) => self.follows(*element, room),
+            Entry::Recursive(_, element) => self.can_be_value(*element, room),
             _ => true,
         }
     }
@@ -265,30 +266,31 @@ impl<'a> SeenCatalogue<'a> {
 
     /// Like `Catalogue::header`.
     #[inline(always)]
-    pub fn header(&self, minor: u8, kind: u8) -> Option<TypeId>
-        ensures number { option_map (λ t. t.0) result ≡ header_number self.now.version minor kind }
+    pub fn header(&self, minor: u8, message_type: u8) -> Option<TypeId>
+        ensures number { option_map (λ t. t.0) result
+            ≡ header_type_number self.now.version minor message_type }
         ensures known { IfSome result (λ t. t.0 < length self.now.types) }
         ensures tree { option_map (λ t. tree self.now t.0) result
-            ≡ header_type self.now.version minor kind }
+            ≡ header_type self.now.version minor message_type }
         ensures fit { IfSome result (λ t. IsFit 24 (tree self.now t.0)) }
         // A reader that knows no types finds the request id first.
-        ensures id { IdStandsFirst minor kind
+        ensures id { RequestIdStandsFirst minor message_type
             → IfSome result (λ t. BeginsWithId (tree self.now t.0)) }
     {
         self.laws();
-        header_id(self.version(), minor, kind)
+        header_type_id(self.version(), minor, message_type)
     }
 
     /// Like `Catalogue::fixed`.
     #[inline(always)]
     pub fn fixed(&self, fixed: Fixed) -> TypeId
-        ensures number { result.0 ≡ fixed_number self.now.version fixed }
+        ensures number { result.0 ≡ fixed_type_number self.now.version fixed }
         ensures known { result.0 < length self.now.types }
         ensures tree { tree self.now result.0 ≡ fixed_type self.now.version fixed }
         ensures fit { IsFit 24 (tree self.now result.0) }
     {
         self.laws();
-        fixed_id(self.version(), fixed)
+        fixed_type_id(self.version(), fixed)
     }
 
     /// Like `Catalogue::interface`.
@@ -330,12 +332,12 @@ impl<'a> SeenCatalogue<'a> {
     pub fn hear(&self, t: TypeId, told: Signal, sign: Sign<'_>) -> Signal
         requires { t.0 < length self.now.types }
         ensures is { result ≡ signal_after self.now t.0 told sign.entry }
-        ensures heard { (n : ℕ) → told_of result
-            ≡ (hearing_in (tree_at self.now n t.0)).hears (told_of told)
-            (sign_is sign.entry) }
+        ensures heard { (n : ℕ) → inferred_of_signal result
+            ≡ (inference_in (tree_at self.now n t.0)).inferred_after (inferred_of_signal told)
+            (sign_view sign.entry) }
     {
         match self.shape(t) {
-            Shape::Led => self.catalogue.hear_any(told, sign),
+            Shape::Led => self.catalogue.any_signal_after(told, sign),
             _ => told,
         }
     }
@@ -343,9 +345,10 @@ impl<'a> SeenCatalogue<'a> {
     /// Like `Catalogue::following`.
     pub fn following(&self, t: TypeId, told: Signal, room: u8) -> Following
         requires { t.0 < length self.now.types }
-        ensures is { sequel (hearing_in (tree_at self.now (suc room) t.0)) (told_of told)
-            ≡ sequel_of result }
-        ensures index { HasPart result }
+        ensures is { sequel (inference_in (tree_at self.now (suc room) t.0))
+            (inferred_of_signal told)
+            ≡ sequel_view result }
+        ensures index { HasPositiveIndex result }
         ensures known { (index : ℕ) → result ≡ Following.Then index →
             index ≤ length self.now.types }
     {
@@ -357,8 +360,9 @@ impl<'a> SeenCatalogue<'a> {
 
     /// What comes after the TypeCode of an any, if that has this room.
     fn following_any(&self, told: Signal, room: u8) -> Following
-        ensures is { sequel (any_hearing self.now room) (told_of told) ≡ sequel_of result }
-        ensures index { HasPart result }
+        ensures is { sequel (any_inference self.now room) (inferred_of_signal told)
+            ≡ sequel_view result }
+        ensures index { HasPositiveIndex result }
         ensures known { (index : ℕ) → result ≡ Following.Then index →
             index ≤ length self.now.types }
     {
@@ -366,15 +370,15 @@ impl<'a> SeenCatalogue<'a> {
         match told {
             Signal::Untold => Following::Ends,
             Signal::Empty => Following::Ends,
-            Signal::Is(i) if self.follows(TypeId(i), room) => Following::Then(i + 1),
+            Signal::Is(i) if self.can_be_value(TypeId(i), room) => Following::Then(i + 1),
             _ => Following::Stops,
         }
     }
 
-    /// Like `Catalogue::follows`.
-    pub fn follows(&self, t: TypeId, room: u8) -> bool
-        ensures { result ≡ follows self.now room t.0 }
+    /// Like `Catalogue::can_be_value`.
+    pub fn can_be_value(&self, t: TypeId, room: u8) -> bool
+        ensures { result ≡ can_be_value self.now room t.0 }
     {
-        self.catalogue.can_follow(t, room) && !(self.narrow && self.catalogue.has_wide_text(t))
+        self.catalogue.has_room(t, room) && !(self.forbids_wide && self.catalogue.has_wide_text(t))
     }
 }

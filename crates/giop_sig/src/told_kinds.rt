@@ -1,9 +1,9 @@
 //! What the kind of a TypeCode, and the type in it, tell about the value.
 
 ghost use Rattle.std.specs.Prelude.{◌≡◌, IfSome, IfNone};
-ghost use Rattle.giop_sig.specs.Types.{Told};
+ghost use Rattle.giop_sig.specs.Types.{InferredType};
 ghost use Rattle.giop_sig.specs.Table.{Table};
-ghost use Rattle.giop_sig.specs.Heard.{next_sequence, sequence_told, told_by};
+ghost use Rattle.giop_sig.specs.Heard.{next_sequence, inferred_sequence, inferred_by_kind};
 ghost use Rattle.giop_sig.specs.Hearings.{signal_of};
 
 use crate::numbers::{
@@ -49,8 +49,8 @@ static TOLD: [Signal; KINDS as usize] = [
 ];
 
 /// What a kind tells about the value.
-pub(crate) fn told_by(kind: u32) -> Signal
-    ensures { result ≡ signal_of (told_by kind) }
+pub(crate) fn signal_by_kind(kind: u32) -> Signal
+    ensures { result ≡ signal_of (inferred_by_kind kind) }
 {
     if kind < KINDS {
         TOLD[kind as usize]
@@ -62,8 +62,9 @@ pub(crate) fn told_by(kind: u32) -> Signal
 /// The sequence of a type, if the two are among the first types and the sequence isn't the next
 /// type. None for any other type.
 pub(crate) fn built_in_sequence(t: TypeId) -> Option<TypeId>
-    ensures some { IfSome result (λ s. (C : Table) → sequence_told C t.0 ≡ Told.Is s.0) }
-    ensures none { IfNone result ((C : Table) → sequence_told C t.0 ≡ next_sequence C t.0) }
+    ensures some { IfSome result
+        (λ s. (C : Table) → inferred_sequence C t.0 ≡ InferredType.Is s.0) }
+    ensures none { IfNone result ((C : Table) → inferred_sequence C t.0 ≡ next_sequence C t.0) }
 {
     if t.0 == OCTET {
         Some(TypeId(OCTETS))

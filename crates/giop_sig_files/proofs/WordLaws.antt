@@ -5,7 +5,7 @@ use Rattle.std.proofs.Math.Seq.{drop-cons}
 use Rattle.giop_sig_files.specs.Names.{word_before}
 
 -- the part of a text between two indices
-abbrev pub between : ℕ → ℕ → List ℕ → List ℕ
+abbrev pub between : (start end : ℕ) (text : List ℕ) → List ℕ
 between start end text = take (end - start) (drop start text)
 
 between_more : (start end : ℕ) (text : List ℕ) → start ≤ end → end < length text

@@ -3,29 +3,31 @@
 use Rattle.std.specs.Prelude.{ℕ, ◌==◌, Bool, ◌&&◌, if◌then◌else◌, List, [], ◌∷◌, ◌++◌, map, filter, flat_map, drop}
 use Rattle.std.specs.List.{list_any}
 use Rattle.std.specs.Str.{bytes_eq}
-use Rattle.giop_sig_files.specs.Blocks.{is_declared, blocks}
+use Rattle.giop_sig_files.specs.Blocks.{begins_declaration, blocks}
 
 -- what is left of a block that is taken from an earlier file: its LFs
-abbrev pub blank : List ℕ → List ℕ
-blank block = filter (λ x. x == 10) block
+abbrev pub line_feeds_of : (block : List ℕ) → List ℕ
+line_feeds_of block = filter (λ x. x == 10) block
 
 -- whether a block is a declaration that an earlier file has, octet for octet; it is taken from
 -- there
-abbrev pub is_taken : List (List ℕ) → List ℕ → Bool
-is_taken before block = is_declared block && list_any (λ other. bytes_eq other block) before
+abbrev pub is_repeated_declaration : (before : List (List ℕ)) (block : List ℕ) → Bool
+is_repeated_declaration before block = begins_declaration block && list_any
+    (λ other. bytes_eq other block) before
 
-abbrev pub once : List (List ℕ) → List ℕ → List ℕ
-once before block = if is_taken before block then blank block else block
+abbrev pub block_or_line_feeds : (before : List (List ℕ)) (block : List ℕ) → List ℕ
+block_or_line_feeds before block = if is_repeated_declaration before block then line_feeds_of block
+    else block
 
 -- what is taken of texts that come after these blocks
-abbrev pub taken : List (List ℕ) → List (List ℕ) → List (List ℕ)
-taken before [] = []
-taken before (text ∷ texts) =
-    map (once before) (blocks text) ++ taken (before ++ blocks text) texts
+abbrev pub blocks_taken : (before texts : List (List ℕ)) → List (List ℕ)
+blocks_taken before [] = []
+blocks_taken before (text ∷ texts) =
+    map (block_or_line_feeds before) (blocks text) ++ blocks_taken (before ++ blocks text) texts
 
-abbrev pub with_line_feed : List ℕ → List ℕ
+abbrev pub with_line_feed : (block : List ℕ) → List ℕ
 with_line_feed block = 10 ∷ block
 
 -- the blocks that are taken, with an LF between two
-abbrev pub joined : List (List ℕ) → List ℕ
-joined texts = drop 1 (flat_map with_line_feed (taken [] texts))
+abbrev pub joined : (texts : List (List ℕ)) → List ℕ
+joined texts = drop 1 (flat_map with_line_feed (blocks_taken [] texts))

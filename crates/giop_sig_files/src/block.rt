@@ -2,21 +2,21 @@
 
 ghost use Rattle.std.specs.Prelude.{◌≡◌, ◌∷◌, ◌++◌, [], IfOk};
 ghost use Rattle.std.specs.List.{count_by};
-ghost use Rattle.giop_sig_files.specs.Blocks.{begins, is_declared, opens, closes, goes_on};
+ghost use Rattle.giop_sig_files.specs.Blocks.{begins_with, begins_declaration, opens_bracket, closes_bracket, continues_in_next_line};
 
 use std::alloc::{AllocError, Global};
 
 /// Whether a text begins with these octets.
 fn begins_with(text: &[u8], word: &[u8]) -> bool
-    ensures { result ≡ begins word.now text.now }
+    ensures { result ≡ begins_with word.now text.now }
 {
     text.starts_with(word)
 }
 
 /// Whether a block begins with the word of a declaration, or of the version.
-#[tactic(auto, unfolding(crate::specs::Blocks::is_declared))]
-pub(crate) fn is_declared(block: &[u8]) -> bool
-    ensures { result ≡ is_declared block.now }
+#[tactic(auto, unfolding(crate::specs::Blocks::begins_declaration))]
+pub(crate) fn begins_declaration(block: &[u8]) -> bool
+    ensures { result ≡ begins_declaration block.now }
 {
     begins_with(block, b"operation ")
         || begins_with(block, b"exception ")
@@ -33,8 +33,8 @@ pub(crate) struct Front {
     pub(crate) octets: Vec<u8>,
     opening: usize,
     closing: usize,
-    ghost opened: { opening ≡ count_by opens octets.items },
-    ghost closed: { closing ≡ count_by closes octets.items },
+    ghost opened: { opening ≡ count_by opens_bracket octets.items },
+    ghost closed: { closing ≡ count_by closes_bracket octets.items },
 }
 
 impl Front {
@@ -60,10 +60,10 @@ impl Front {
     }
 
     /// Whether the front is a declaration that goes on in the next line.
-    pub(crate) fn goes_on(&self) -> bool
-        ensures { result ≡ goes_on self.now.octets.items }
+    pub(crate) fn continues_in_next_line(&self) -> bool
+        ensures { result ≡ continues_in_next_line self.now.octets.items }
     {
         let is_over = self.octets.as_slice().ends_with(b";") && self.opening == self.closing;
-        is_declared(self.octets.as_slice()) && !is_over
+        begins_declaration(self.octets.as_slice()) && !is_over
     }
 }

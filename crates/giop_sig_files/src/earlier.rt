@@ -1,7 +1,7 @@
 //! The earlier line that declares the same name as a line.
 
 ghost use Rattle.std.specs.Prelude.{◌≡◌, ◌<◌, ◌≤◌, ℕ, [], IfSome, IfNone, option_map};
-ghost use Rattle.giop_sig_files.specs.Names.{first_line, after_line, line_at, word_before, name_behind, declared_type, declared_name, is_operation, declare_same, DeclareSame};
+ghost use Rattle.giop_sig_files.specs.Names.{first_line, after_line, line_at, word_before, name_after_word, declared_type, declared_name, is_operation, declare_same_name, DeclareSameName};
 
 /// The first line of a text, and what follows it.
 fn first_line(text: &[u8]) -> (&[u8], &[u8])
@@ -43,9 +43,9 @@ fn word_before(text: &[u8], stop: u8) -> Option<&[u8]>
 }
 
 /// The name in a line that begins with this word: what comes before the first octet that is `stop`.
-#[tactic(auto, unfolding(crate::specs::Names::name_behind))]
-fn name_behind<'a>(line: &'a [u8], word: &[u8], stop: u8) -> Option<&'a [u8]>
-    ensures { option_map (λ w. w.now) result ≡ name_behind word.now stop line.now }
+#[tactic(auto, unfolding(crate::specs::Names::name_after_word))]
+fn name_after_word<'a>(line: &'a [u8], word: &[u8], stop: u8) -> Option<&'a [u8]>
+    ensures { option_map (λ w. w.now) result ≡ name_after_word word.now stop line.now }
 {
     match line.strip_prefix(word) {
         None => None,
@@ -57,19 +57,19 @@ fn name_behind<'a>(line: &'a [u8], word: &[u8], stop: u8) -> Option<&'a [u8]>
 fn declared_type(line: &[u8]) -> Option<&[u8]>
     ensures { option_map (λ w. w.now) result ≡ declared_type line.now }
 {
-    name_behind(line, b"struct ", b' ')
-        .or(name_behind(line, b"union ", b' '))
-        .or(name_behind(line, b"enum ", b' '))
+    name_after_word(line, b"struct ", b' ')
+        .or(name_after_word(line, b"union ", b' '))
+        .or(name_after_word(line, b"enum ", b' '))
 }
 
 /// The name that a line declares, if it declares one.
 fn declared_name(line: &[u8]) -> Option<&[u8]>
     ensures { option_map (λ w. w.now) result ≡ declared_name line.now }
 {
-    name_behind(line, b"operation ", b'(')
-        .or(name_behind(line, b"exception ", b' '))
+    name_after_word(line, b"operation ", b'(')
+        .or(name_after_word(line, b"exception ", b' '))
         .or(declared_type(line))
-        .or(name_behind(line, b"key ", b' '))
+        .or(name_after_word(line, b"key ", b' '))
 }
 
 /// Whether a line declares an operation.
@@ -80,9 +80,9 @@ fn is_operation(line: &[u8]) -> bool
 }
 
 /// Whether two lines declare the same name.
-#[tactic(auto, unfolding(crate::specs::Names::declare_same))]
-fn declare_same(above: &[u8], line: &[u8]) -> bool
-    ensures { result ≡ declare_same above.now line.now }
+#[tactic(auto, unfolding(crate::specs::Names::declare_same_name))]
+fn declare_same_name(above: &[u8], line: &[u8]) -> bool
+    ensures { result ≡ declare_same_name above.now line.now }
 {
     if is_operation(above) != is_operation(line) {
         return false;
@@ -95,17 +95,18 @@ fn declare_same(above: &[u8], line: &[u8]) -> bool
 
 /// The number of the first line before a line that declares the same name.
 pub fn declared_above(text: &[u8], line: u32) -> Option<u32>
-    ensures same { IfSome result (λ above. DeclareSame text.now above line) }
+    ensures same { IfSome result (λ above. DeclareSameName text.now above line) }
     ensures above { IfSome result (λ above. (1 ≤ above) × (above < line)) }
     ensures first { IfSome result (λ above. (k : ℕ) → 1 ≤ k → k < above
-        → DeclareSame text.now k line → ⊥) }
-    ensures none { IfNone result ((k : ℕ) → 1 ≤ k → k < line → DeclareSame text.now k line → ⊥) }
+        → DeclareSameName text.now k line → ⊥) }
+    ensures none { IfNone result
+        ((k : ℕ) → 1 ≤ k → k < line → DeclareSameName text.now k line → ⊥) }
 {
     let declared = line_at(text, line);
     let mut rest = text;
     for above in 1..line {
         let (first, after) = first_line(rest);
-        if declare_same(first, declared) {
+        if declare_same_name(first, declared) {
             return Some(above);
         }
         rest = after;

@@ -2,9 +2,9 @@
 
 ghost use Rattle.std.specs.Prelude.{◌≡◌, ◌∷◌, ◌++◌, [], map, flat_map, IfOk};
 ghost use Rattle.giop_sig_files.specs.Blocks.{blocks};
-ghost use Rattle.giop_sig_files.specs.Joined.{is_taken, joined, once, with_line_feed};
+ghost use Rattle.giop_sig_files.specs.Joined.{is_repeated_declaration, joined, block_or_line_feeds, with_line_feed};
 
-use crate::block::{Front, is_declared};
+use crate::block::{Front, begins_declaration};
 use crate::places::SignatureText;
 use std::alloc::{AllocError, Global};
 
@@ -15,7 +15,7 @@ fn blocks(alloc: Global, text: &[u8]) -> Result<Vec<Vec<u8>>, AllocError>
     let mut blocks = Vec::new(alloc);
     let mut front = Front::new(alloc);
     for octet in text {
-        if *octet == b'\n' && !front.goes_on() {
+        if *octet == b'\n' && !front.continues_in_next_line() {
             blocks.push(front.octets)?;
             front = Front::new(alloc);
         } else {
@@ -27,19 +27,19 @@ fn blocks(alloc: Global, text: &[u8]) -> Result<Vec<Vec<u8>>, AllocError>
 }
 
 /// Whether a block is a declaration that stands among the blocks of earlier files.
-fn is_taken(before: &[Vec<u8>], block: &Vec<u8>) -> bool
-    ensures { result ≡ is_taken (map (λ b. b.items) before.now) block.now.items }
+fn is_repeated_declaration(before: &[Vec<u8>], block: &Vec<u8>) -> bool
+    ensures { result ≡ is_repeated_declaration (map (λ b. b.items) before.now) block.now.items }
 {
-    is_declared(block.as_slice()) && before.contains(block)
+    begins_declaration(block.as_slice()) && before.contains(block)
 }
 
 /// Adds to a text what is taken of a block: all of it, or only its line feeds if an earlier file has the block.
-fn take(text: &mut Vec<u8>, before: &[Vec<u8>], block: &Vec<u8>) -> Result<(), AllocError>
+fn append_block(text: &mut Vec<u8>, before: &[Vec<u8>], block: &Vec<u8>) -> Result<(), AllocError>
     ensures { IfOk result (λ _. text.new.items ≡ text.old.items
-        ++ 10 ∷ once (map (λ b. b.items) before.now) block.now.items) }
+        ++ 10 ∷ block_or_line_feeds (map (λ b. b.items) before.now) block.now.items) }
 {
     text.push(b'\n')?;
-    if !is_taken(before, block) {
+    if !is_repeated_declaration(before, block) {
         return text.extend_from_slice(block.as_slice());
     }
     for octet in block {
@@ -51,12 +51,17 @@ fn take(text: &mut Vec<u8>, before: &[Vec<u8>], block: &Vec<u8>) -> Result<(), A
 }
 
 /// Adds to a text what is taken of the blocks of a file.
-fn take_all(text: &mut Vec<u8>, before: &[Vec<u8>], blocks: &[Vec<u8>]) -> Result<(), AllocError>
+fn append_blocks(
+    text: &mut Vec<u8>,
+    before: &[Vec<u8>],
+    blocks: &[Vec<u8>],
+) -> Result<(), AllocError>
     ensures { IfOk result (λ _. text.new.items ≡ text.old.items ++ flat_map with_line_feed
-        (map (once (map (λ b. b.items) before.now)) (map (λ b. b.items) blocks.now))) }
+        (map (block_or_line_feeds (map (λ b. b.items) before.now))
+        (map (λ b. b.items) blocks.now))) }
 {
     for block in blocks {
-        take(text, before, block)?;
+        append_block(text, before, block)?;
     }
     Ok(())
 }
@@ -69,7 +74,7 @@ pub fn joined(alloc: Global, files: &[SignatureText]) -> Result<Vec<u8>, AllocEr
     let mut before = Vec::new(alloc);
     for file in files {
         let mut blocks = blocks(alloc, file.text.as_slice())?;
-        take_all(&mut text, before.as_slice(), blocks.as_slice())?;
+        append_blocks(&mut text, before.as_slice(), blocks.as_slice())?;
         before.append(&mut blocks)?;
     }
     match text.as_slice() {

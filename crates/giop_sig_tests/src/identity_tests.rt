@@ -1,8 +1,9 @@
 //! Repository ids of types: which type has an id.
 
+use crate::expecting::{expect, expect_of};
+use crate::rows::accepted;
 use giop_sig::{Catalogue, Shape};
 use std::process::Abort;
-use std::test::Fail;
 
 /// A type of each kind that can have a repository id, one that has none, and an exception.
 static FILE: &[u8] = b"signatures 3;\n\
@@ -27,18 +28,27 @@ static IDS: [(&[u8], Option<Shape>); 9] = [
 ];
 
 #[test]
-fn a_repository_id_finds_its_type(rt: HostRuntime) -> Result<(), Fail> {
-    types_are_found(&rt, &Catalogue::parse_types(rt.alloc(), FILE)?);
-    Ok(())
+fn a_repository_id_finds_its_type(rt: HostRuntime) {
+    match accepted(rt.alloc(), FILE) {
+        Some(catalogue) => types_are_found(&rt, &catalogue),
+        None => expect(&rt, false, "the file"),
+    }
 }
 
 fn types_are_found(rt: &impl Abort, catalogue: &Catalogue) {
-    for (id, want) in IDS {
-        let found = match catalogue.identified(id) {
-            None => None,
-            Some(t) => Some(catalogue.shape(t)),
-        };
-        assert!(rt; found == want, "{id:?}");
+    for (id, shape) in &IDS {
+        expect_of(rt, is_found(catalogue, id, *shape), id);
     }
-    assert!(rt; catalogue.identified(&[b'I'; 129]).is_none());
+    expect(
+        rt,
+        catalogue.identified(&[b'I'; 129]).is_none(),
+        "129 octets",
+    );
+}
+
+fn is_found(catalogue: &Catalogue, id: &[u8], want: Option<Shape>) -> bool {
+    match catalogue.identified(id) {
+        None => want.is_none(),
+        Some(t) => want == Some(catalogue.shape(t)),
+    }
 }

@@ -1,8 +1,9 @@
 //! Operations by interface: whose an object key is, and which operation has a name there.
 
-use giop_sig::{Catalogue, InterfaceId, OpId};
+use crate::expecting::{expect, expect_of};
+use crate::rows::accepted;
+use giop_sig::Catalogue;
 use std::process::Abort;
-use std::test::Fail;
 
 /// Two interfaces with operations of one name, and one operation without an interface.
 static FILE: &[u8] = b"signatures 3;\n\
@@ -38,9 +39,11 @@ static OPERATIONS: [(&[u8], &[u8], Option<u32>); 8] = [
 ];
 
 #[test]
-fn a_key_an_id_and_a_name_find_their_interface_and_operation(rt: HostRuntime) -> Result<(), Fail> {
-    all_are_found(&rt, &Catalogue::parse_types(rt.alloc(), FILE)?);
-    Ok(())
+fn a_key_an_id_and_a_name_find_their_interface_and_operation(rt: HostRuntime) {
+    match accepted(rt.alloc(), FILE) {
+        Some(catalogue) => all_are_found(&rt, &catalogue),
+        None => expect(&rt, false, "the file"),
+    }
 }
 
 fn all_are_found(rt: &impl Abort, catalogue: &Catalogue) {
@@ -50,38 +53,60 @@ fn all_are_found(rt: &impl Abort, catalogue: &Catalogue) {
 }
 
 fn keys_are_found(rt: &impl Abort, catalogue: &Catalogue) {
-    for (key, id) in KEYS {
-        assert!(rt; id_of(catalogue, key) == id, "{key:?}");
+    for (key, id) in &KEYS {
+        expect_of(rt, is_of(catalogue, key, id), key);
     }
-    assert!(rt; id_of(catalogue, &[b's'; 128]) == b"IDL:Stock:1.0".as_slice());
-    assert!(rt; catalogue.interface(&[b's'; 129]).is_none());
+    expect(
+        rt,
+        is_of(catalogue, &[b's'; 128], b"IDL:Stock:1.0"),
+        "128 octets",
+    );
+    expect(rt, is_of(catalogue, &[b's'; 129], b""), "129 octets");
 }
+
+/// Whether the interface of an object key has this repository id; none if that is empty.
+fn is_of(catalogue: &Catalogue, key: &[u8], id: &[u8]) -> bool {
+    match catalogue.interface(key) {
+        None => id.is_empty(),
+        Some(interface) => catalogue.interface_name(interface) == id,
+    }
+}
+
+/// The repository id of an interface, and its number.
+static INTERFACES: [(&[u8], Option<u32>); 4] = [
+    (b"IDL:Orders:1.0", Some(0)),
+    (b"IDL:Stock:1.0", Some(1)),
+    (b"IDL:Store:1.0", Some(2)),
+    (b"orders", None),
+];
 
 fn ids_are_found(rt: &impl Abort, catalogue: &Catalogue) {
-    let ids: [&[u8]; 3] = [b"IDL:Orders:1.0", b"IDL:Stock:1.0", b"IDL:Store:1.0"];
-    for number in 0..3_u32 {
-        let found = catalogue.named_interface(ids[number as usize]);
-        assert!(rt; found == Some(InterfaceId(number)), "{number}");
+    for (id, number) in &INTERFACES {
+        expect_of(rt, is_interface(catalogue, id, *number), id);
     }
-    assert!(rt; catalogue.named_interface(b"orders").is_none());
-    assert!(rt; catalogue.named_interface(&[b's'; 129]).is_none());
+    expect(
+        rt,
+        is_interface(catalogue, &[b's'; 129], None),
+        "an id of 129 octets",
+    );
 }
 
-/// The repository id of the interface of an object key.
-fn id_of<'a>(catalogue: &'a Catalogue, key: &[u8]) -> &'a [u8] {
-    match catalogue.interface(key) {
-        None => b"",
-        Some(interface) => catalogue.interface_name(interface),
+fn is_interface(catalogue: &Catalogue, id: &[u8], want: Option<u32>) -> bool {
+    match catalogue.named_interface(id) {
+        None => want.is_none(),
+        Some(interface) => want == Some(interface.0),
     }
 }
 
 fn operations_are_found(rt: &impl Abort, catalogue: &Catalogue) {
-    for (name, key, number) in OPERATIONS {
-        let found = catalogue.operation_for(name, catalogue.interface(key));
-        let want = match number {
-            None => None,
-            Some(number) => Some(OpId(number)),
-        };
-        assert!(rt; found == want, "{name:?}");
+    for (name, key, number) in &OPERATIONS {
+        expect_of(rt, is_operation(catalogue, name, key, *number), key);
+    }
+}
+
+fn is_operation(catalogue: &Catalogue, name: &[u8], key: &[u8], want: Option<u32>) -> bool {
+    match catalogue.operation_for(name, catalogue.interface(key)) {
+        None => want.is_none(),
+        Some(operation) => want == Some(operation.0),
     }
 }

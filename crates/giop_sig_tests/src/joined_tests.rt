@@ -3,10 +3,10 @@
 use crate::expecting::expect;
 use giop_sig_files::{SignatureText, declared_above, joined, place};
 use std::alloc::{AllocError, Global};
-use std::test::Fail;
+use std::process::Abort;
 
 /// Files, and the text that they are read as.
-const JOINED: [(&[&str], &str); 13] = [
+static JOINED: [(&[&str], &str); 13] = [
     (&["signatures 1;"], "signatures 1;"),
     (&["signatures 1;\n"], "signatures 1;\n"),
     (&[""], ""),
@@ -82,7 +82,7 @@ const JOINED: [(&[&str], &str); 13] = [
 ];
 
 /// Lines of a text, and the earlier lines that declare the same name.
-const ABOVE: [(&str, u32, Option<u32>); 12] = [
+static ABOVE: [(&str, u32, Option<u32>); 12] = [
     (
         "operation void f();\noperation long f(in long a);",
         2,
@@ -121,22 +121,29 @@ fn files_of<'a>(alloc: Global, texts: &[&'a str]) -> Result<Vec<SignatureText<'a
     Ok(files)
 }
 
-fn are_read_as(alloc: Global, texts: &[&str], want: &str) -> Result<bool, AllocError> {
-    let files = files_of(alloc, texts)?;
-    let text = joined(alloc, files.as_slice())?;
-    Ok(text.as_slice() == want.as_bytes())
+fn are_read_as(alloc: Global, texts: &[&str], want: &str) -> bool {
+    match files_of(alloc, texts) {
+        Ok(files) => is_joined(alloc, &files, want),
+        Err(_) => false,
+    }
+}
+
+fn is_joined(alloc: Global, files: &[SignatureText<'_>], want: &str) -> bool {
+    match joined(alloc, files) {
+        Ok(text) => text.as_slice() == want.as_bytes(),
+        Err(_) => false,
+    }
 }
 
 #[test]
-fn files_are_read_as_one(rt: HostRuntime) -> Result<(), Fail> {
+fn files_are_read_as_one(rt: HostRuntime) {
     for (texts, want) in &JOINED {
-        expect(&rt, are_read_as(rt.alloc(), texts, want)?, want);
+        expect(&rt, are_read_as(rt.alloc(), *texts, want), want);
     }
-    Ok(())
 }
 
 /// A line of the text that three files are read as, its file, and its line there.
-const PLACES: [(u32, &str, u32); 6] = [
+static PLACES: [(u32, &str, u32); 6] = [
     (1, "signatures 1;\n\n", 1),
     (3, "signatures 1;\n\n", 3),
     (4, "signatures 1;", 1),
@@ -156,15 +163,20 @@ fn is_placed(files: &[SignatureText], line: u32, name: &str, want: u32) -> bool 
 }
 
 #[test]
-fn a_line_is_found_in_its_file(rt: HostRuntime) -> Result<(), Fail> {
-    let files = files_of(
+fn a_line_is_found_in_its_file(rt: HostRuntime) {
+    match files_of(
         rt.alloc(),
         &["signatures 1;\n\n", "signatures 1;", "x\ny\n"],
-    )?;
-    for (line, name, want) in &PLACES {
-        expect(&rt, is_placed(files.as_slice(), *line, name, *want), name);
+    ) {
+        Ok(files) => are_placed(&rt, &files),
+        Err(_) => expect(&rt, false, "the files"),
     }
-    Ok(())
+}
+
+fn are_placed(rt: &impl Abort, files: &[SignatureText<'_>]) {
+    for (line, name, want) in &PLACES {
+        expect(rt, is_placed(files, *line, name, *want), name);
+    }
 }
 
 #[test]

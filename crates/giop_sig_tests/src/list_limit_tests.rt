@@ -1,117 +1,89 @@
 //! Request lists of as much as they may have, and of more.
 
-use crate::rows::list_differs;
-use giop_sig::{Catalogue, OpId, Requests, SigFault};
+use crate::expecting::{expect, expect_same};
+use crate::rows::{list_differs, parsed};
+use giop_sig::{Catalogue, OpId, Requests};
 use std::alloc::{AllocError, Global};
 use std::fmt;
 use std::fmt::Write;
 use std::process::Abort;
-use std::test::Fail;
 
-/// The catalogue of the lists.
-fn nop(alloc: Global) -> Result<Catalogue, SigFault> {
-    Catalogue::parse(alloc, b"signatures 1; operation void op0();")
-}
+/// A list's first octets, octets that stand in it so many times, its last octets, and what is told of it.
+type Row = (
+    &'static [u8],
+    &'static [u8],
+    usize,
+    &'static [u8],
+    &'static str,
+);
+
+/// 32 empty lines.
+const NEWLINES: &[u8] = b"\n\n\n\n\n\n\n\n\n\n\n\n\n\n\n\n\n\n\n\n\n\n\n\n\n\n\n\n\n\n\n\n";
+
+/// How much a list of the operation `op0` may have.
+static LIMITS: [Row; 9] = [
+    (b"", b"1 op0\n", 65_536, b"", "1"),
+    (b"", b"1 op0\n", 65_536, b"1 op0", "65537 limit"),
+    (b"", b"1 op0\n", 65_537, b"\n", "65537 limit"),
+    (b"", b"1 op0\n", 65_536, b"1 op0 \n", "65537 syntax"),
+    (b"", b"1 op0\n", 65_535, b"01 op0\n", "65536 syntax"),
+    // A name of 128 octets, and one of 129.
+    (b"1 ", b"n", 128, b"\n", "1"),
+    (b"1 ", b"n", 129, b"\n", "1 syntax"),
+    // 16,777,216 octets, 524,288 times 32, and one more.
+    (b"", NEWLINES, 524_288, b"", "1 syntax"),
+    (b"", NEWLINES, 524_288, b"\n", "1 limit"),
+];
+
+/// In version 3 an interface may have 128 octets, and not 129.
+static INTERFACES: [Row; 2] = [
+    (b"7 get ", b"n", 128, b"\n", "1"),
+    (b"7 get ", b"n", 129, b"\n", "1 syntax"),
+];
 
 fn expect_told(rt: &(impl Abort + AllocGlobal), catalogue: &Catalogue, text: &[u8], want: &str) {
     let differs = list_differs(rt.alloc(), text, catalogue, want);
-    assert!(rt; differs.is_empty(), "{differs}, not {want}");
+    expect_same(rt, differs, want, b"");
 }
 
-fn add_times(text: &[u8], times: usize, all: &mut Vec<u8>) -> Result<(), AllocError> {
+fn text_of(
+    alloc: Global,
+    first: &[u8],
+    repeated: &[u8],
+    times: usize,
+    last: &[u8],
+) -> Result<Vec<u8>, AllocError> {
+    let mut text = Vec::from_slice(alloc, first)?;
     for _ in 0..times {
-        all.extend_from_slice(text)?;
+        text.extend_from_slice(repeated)?;
     }
-    Ok(())
+    text.extend_from_slice(last)?;
+    Ok(text)
 }
 
-/// How many entries there are, what follows them, and what is told of the list.
-static ENTRIES: [(usize, &[u8], &str); 5] = [
-    (65_536, b"", "1"),
-    (65_536, b"1 op0", "65537 limit"),
-    (65_537, b"\n", "65537 limit"),
-    (65_536, b"1 op0 \n", "65537 syntax"),
-    (65_535, b"01 op0\n", "65536 syntax"),
-];
+fn expect_limits(rt: &(impl Abort + AllocGlobal), catalogue: &Catalogue, rows: &[Row]) {
+    for (first, repeated, times, last, want) in rows {
+        match text_of(rt.alloc(), first, repeated, *times, last) {
+            Ok(text) => expect_told(rt, catalogue, &text, want),
+            Err(_) => expect(rt, false, "the memory"),
+        }
+    }
+}
+
+/// Expects of a catalogue of version 3 how long an interface may be.
+pub fn expect_interfaces(rt: &(impl Abort + AllocGlobal), catalogue: &Catalogue) {
+    expect_limits(rt, catalogue, &INTERFACES);
+}
 
 #[test]
-fn a_list_has_at_most_as_much_as_its_limits(rt: HostRuntime) -> Result<(), Fail> {
-    expect_limits(&rt, &nop(rt.alloc())?)
-}
-
-fn expect_limits(rt: &(impl Abort + AllocGlobal), catalogue: &Catalogue) -> Result<(), Fail> {
-    expect_entries(rt, catalogue)?;
-    expect_names(rt, catalogue)?;
-    expect_lines(rt, catalogue)?;
-    expect_ids(rt, catalogue)
-}
-
-fn expect_entries(rt: &(impl Abort + AllocGlobal), catalogue: &Catalogue) -> Result<(), Fail> {
-    for (times, last, want) in &ENTRIES {
-        let mut text = Vec::new(rt.alloc());
-        add_entries(*times, last, &mut text)?;
-        expect_told(rt, catalogue, &text, want);
+fn a_list_has_at_most_as_much_as_its_limits(rt: HostRuntime) {
+    match parsed(rt.alloc(), false, b"signatures 1; operation void op0();") {
+        Ok(catalogue) => {
+            expect_limits(&rt, &catalogue, &LIMITS);
+            expect_ids(&rt, &catalogue);
+        }
+        Err(_) => expect(&rt, false, "the file"),
     }
-    Ok(())
-}
-
-fn add_entries(times: usize, last: &[u8], text: &mut Vec<u8>) -> Result<(), AllocError> {
-    add_times(b"1 op0\n", times, text)?;
-    text.extend_from_slice(last)
-}
-
-/// Expects a name of 128 octets, and that one of 129 is refused.
-fn expect_names(rt: &(impl Abort + AllocGlobal), catalogue: &Catalogue) -> Result<(), Fail> {
-    expect_word(rt, catalogue, b"1 ", 128, "1")?;
-    expect_word(rt, catalogue, b"1 ", 129, "1 syntax")
-}
-
-/// Expects what is told of an entry that ends with a word of so many octets.
-fn expect_word(
-    rt: &(impl Abort + AllocGlobal),
-    catalogue: &Catalogue,
-    front: &[u8],
-    size: usize,
-    want: &str,
-) -> Result<(), Fail> {
-    let mut text = Vec::new(rt.alloc());
-    add_word(front, size, &mut text)?;
-    expect_told(rt, catalogue, &text, want);
-    Ok(())
-}
-
-fn add_word(front: &[u8], size: usize, text: &mut Vec<u8>) -> Result<(), AllocError> {
-    text.extend_from_slice(front)?;
-    add_times(b"n", size, text)?;
-    text.push(b'\n')?;
-    Ok(())
-}
-
-/// Expects an interface of 128 octets, and that one of 129 is refused, in version 3.
-pub fn expect_interfaces(
-    rt: &(impl Abort + AllocGlobal),
-    catalogue: &Catalogue,
-) -> Result<(), Fail> {
-    expect_word(rt, catalogue, b"7 get ", 128, "1")?;
-    expect_word(rt, catalogue, b"7 get ", 129, "1 syntax")
-}
-
-/// Expects which rule refuses a text of 16,777,216 octets, and one of more.
-fn expect_lines(rt: &(impl Abort + AllocGlobal), catalogue: &Catalogue) -> Result<(), Fail> {
-    let mut text = Vec::new(rt.alloc());
-    expect_most(rt, catalogue, &mut text)
-}
-
-fn expect_most(
-    rt: &(impl Abort + AllocGlobal),
-    catalogue: &Catalogue,
-    text: &mut Vec<u8>,
-) -> Result<(), Fail> {
-    add_times(b"\n", 16_777_216, text)?;
-    expect_told(rt, catalogue, text, "1 syntax");
-    text.push(b'\n')?;
-    expect_told(rt, catalogue, text, "1 limit");
-    Ok(())
 }
 
 /// Adds entries of `op0` for so many ids, 0 the first.
@@ -122,32 +94,24 @@ fn add_ids(count: u32, text: &mut String) -> fmt::Result {
     Ok(())
 }
 
-fn expect_ids(rt: &(impl Abort + AllocGlobal), catalogue: &Catalogue) -> Result<(), Fail> {
-    let mut text = String::new(rt.alloc());
-    expect_id_more(rt, catalogue, &mut text)
-}
-
 /// Expects all of 65,536 ids, and that one more is refused.
-fn expect_id_more(
-    rt: &(impl Abort + AllocGlobal),
-    catalogue: &Catalogue,
-    text: &mut String,
-) -> Result<(), Fail> {
-    add_ids(65_536, text)?;
-    expect_all(rt, catalogue, text.as_bytes())?;
-    text.push_str("65536 op0\n")?;
+fn expect_ids(rt: &(impl Abort + AllocGlobal), catalogue: &Catalogue) {
+    let mut text = String::new(rt.alloc());
+    expect(rt, add_ids(65_536, &mut text).is_ok(), "the memory");
+    expect(
+        rt,
+        all_are_read(rt.alloc(), catalogue, text.as_bytes()),
+        "the ids",
+    );
+    expect(rt, text.push_str("65536 op0\n").is_ok(), "the memory");
     expect_told(rt, catalogue, text.as_bytes(), "65537 limit");
-    Ok(())
 }
 
-fn expect_all(
-    rt: &(impl Abort + AllocGlobal),
-    catalogue: &Catalogue,
-    text: &[u8],
-) -> Result<(), Fail> {
-    let list = Requests::parse(rt.alloc(), text, catalogue)?;
-    assert!(rt; has_all(&list));
-    Ok(())
+fn all_are_read(alloc: Global, catalogue: &Catalogue, text: &[u8]) -> bool {
+    match Requests::parse(alloc, text, catalogue) {
+        Ok(list) => has_all(&list),
+        Err(_) => false,
+    }
 }
 
 fn has_all(list: &Requests) -> bool {

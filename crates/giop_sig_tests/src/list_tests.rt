@@ -1,11 +1,12 @@
 //! Request lists: which texts are lists, what they say, and which line of the others is refused.
 
+use crate::expecting::{expect, expect_same};
 use crate::list_limit_tests::expect_interfaces;
 use crate::list_rows::{READ, REFUSED, THIRD_READ, THIRD_REFUSED};
-use crate::rows::{are_numbers, list_differs, row_of};
-use giop_sig::{Catalogue, ListFault, ListFaultKind, OpId, Requests, one_list};
+use crate::rows::{accepted, are_numbers, list_differs, row_of};
+use giop_sig::{Catalogue, ListFaultKind, OpId, Requests, one_list};
+use std::alloc::Global;
 use std::process::Abort;
-use std::test::Fail;
 
 /// The operations `ask` and `nop`, in a version. What a function answers stands in no goal of its callers, as a static would.
 fn ask_and_nop(version: u32) -> &'static [u8] {
@@ -33,77 +34,65 @@ fn third_refused() -> &'static [u8] {
 }
 
 #[test]
-fn a_list_says_the_operation_of_each_id_or_its_first_wrong_line(
-    rt: HostRuntime,
-) -> Result<(), Fail> {
+fn a_list_says_the_operation_of_each_id_or_its_first_wrong_line(rt: HostRuntime) {
     for version in 1..4_u32 {
-        version_tells(&rt, version)?;
+        match accepted(rt.alloc(), ask_and_nop(version)) {
+            Some(catalogue) => are_told(&rt, &catalogue, version),
+            None => expect(&rt, false, "the file"),
+        }
     }
-    Ok(())
 }
 
-fn version_tells(rt: &(impl Abort + AllocGlobal), version: u32) -> Result<(), Fail> {
-    are_told(
-        rt,
-        &Catalogue::parse_types(rt.alloc(), ask_and_nop(version))?,
-        version,
-    )
+fn are_told(rt: &(impl Abort + AllocGlobal), catalogue: &Catalogue, version: u32) {
+    are_read(rt, catalogue, READ);
+    are_refused(rt, catalogue, REFUSED);
+    if version < 3 {
+        has_none(rt, catalogue);
+    } else {
+        expect_interfaces(rt, catalogue);
+    }
 }
 
 #[test]
-fn a_third_word_is_an_interface_in_version_3(rt: HostRuntime) -> Result<(), Fail> {
-    has_third_words(&rt, &Catalogue::parse_types(rt.alloc(), gets())?)
-}
-
-fn has_third_words(rt: &(impl Abort + AllocGlobal), catalogue: &Catalogue) -> Result<(), Fail> {
-    are_read(rt, catalogue, third_read())?;
-    are_refused(rt, catalogue, third_refused())
+fn a_third_word_is_an_interface_in_version_3(rt: HostRuntime) {
+    match accepted(rt.alloc(), gets()) {
+        Some(catalogue) => {
+            are_read(&rt, &catalogue, third_read());
+            are_refused(&rt, &catalogue, third_refused());
+        }
+        None => expect(&rt, false, "the file"),
+    }
 }
 
 /// Expects that no list has a third word.
-pub fn has_none(rt: &(impl Abort + AllocGlobal), catalogue: &Catalogue) -> Result<(), Fail> {
+pub fn has_none(rt: &(impl Abort + AllocGlobal), catalogue: &Catalogue) {
     for row in third_read().split(|octet| *octet == b'=') {
-        let differs = list_differs(rt.alloc(), row_of(row)?.1, catalogue, "1 syntax");
-        assert!(rt; differs.is_empty(), "{differs}: {row:?}");
-    }
-    Ok(())
-}
-
-fn are_told(
-    rt: &(impl Abort + AllocGlobal),
-    catalogue: &Catalogue,
-    version: u32,
-) -> Result<(), Fail> {
-    are_read(rt, catalogue, READ)?;
-    are_refused(rt, catalogue, REFUSED)?;
-    if version < 3 {
-        has_none(rt, catalogue)
-    } else {
-        expect_interfaces(rt, catalogue)
+        let (_, text) = row_of(row);
+        let differs = list_differs(rt.alloc(), text, catalogue, "1 syntax");
+        expect_same(rt, differs, "1 syntax", text);
     }
 }
 
-fn are_read(
-    rt: &(impl Abort + AllocGlobal),
-    catalogue: &Catalogue,
-    rows: &[u8],
-) -> Result<(), Fail> {
+fn are_read(rt: &(impl Abort + AllocGlobal), catalogue: &Catalogue, rows: &[u8]) {
     for row in rows.split(|octet| *octet == b'=') {
-        let (want, text) = row_of(row)?;
-        is_read(rt, catalogue, text, want)?;
+        let (want, text) = row_of(row);
+        let differs = reading_differs(rt.alloc(), catalogue, text, want);
+        expect_same(rt, differs, want, text);
     }
-    Ok(())
 }
 
-fn is_read(
-    rt: &(impl Abort + AllocGlobal),
-    catalogue: &Catalogue,
-    text: &[u8],
-    want: &str,
-) -> Result<(), Fail> {
-    let list = Requests::parse(rt.alloc(), text, catalogue)?;
-    assert!(rt; says(&list, want), "{want}: {text:?}");
-    Ok(())
+/// What differs in what a list says of an id.
+fn reading_differs(alloc: Global, catalogue: &Catalogue, text: &[u8], want: &str) -> &'static str {
+    match Requests::parse(alloc, text, catalogue) {
+        Ok(list) => {
+            if says(&list, want) {
+                ""
+            } else {
+                "read as another"
+            }
+        }
+        Err(_) => "refused",
+    }
 }
 
 /// Whether a list says this of an id: the id, how many ids there are, and its operation.
@@ -120,40 +109,28 @@ fn says(list: &Requests, want: &str) -> bool {
     }
 }
 
-fn are_refused(
-    rt: &(impl Abort + AllocGlobal),
-    catalogue: &Catalogue,
-    rows: &[u8],
-) -> Result<(), Fail> {
+fn are_refused(rt: &(impl Abort + AllocGlobal), catalogue: &Catalogue, rows: &[u8]) {
     for row in rows.split(|octet| *octet == b'=') {
-        let (want, text) = row_of(row)?;
+        let (want, text) = row_of(row);
         let differs = list_differs(rt.alloc(), text, catalogue, want);
-        assert!(rt; differs.is_empty(), "{differs}, not {want}: {text:?}");
+        expect_same(rt, differs, want, text);
     }
-    Ok(())
 }
 
 /// Run with each allocation refused in turn, this finds an answer that is neither the usual nor the refusal.
 #[test]
-fn want_of_memory_is_refused_as_such(rt: HostRuntime) -> Result<(), Fail> {
-    match Catalogue::parse_types(rt.alloc(), ask_and_nop(1)) {
-        Ok(catalogue) => reads_or_refuses(&rt, &catalogue),
-        Err(_) => {}
+fn want_of_memory_is_refused_as_such(rt: HostRuntime) {
+    if let Some(catalogue) = accepted(rt.alloc(), ask_and_nop(1)) {
+        expect(&rt, is_read_or_refused(rt.alloc(), &catalogue), "the list");
     }
-    Ok(())
 }
 
-fn reads_or_refuses(rt: &(impl Abort + AllocGlobal), catalogue: &Catalogue) {
+fn is_read_or_refused(alloc: Global, catalogue: &Catalogue) -> bool {
     let text = b"1 ask\n2 nop\n3 ask\n4 gone\n5 nop\n";
-    let is_right = match Requests::parse(rt.alloc(), text, catalogue) {
+    match Requests::parse(alloc, text, catalogue) {
         Ok(list) => list.count() == 5 && list.operation(5) == Some(OpId(1)),
-        Err(fault) => fault
-            == ListFault {
-                line: 0,
-                kind: ListFaultKind::OutOfMemory,
-            },
-    };
-    assert!(rt; is_right);
+        Err(fault) => fault.line == 0 && fault.kind == ListFaultKind::OutOfMemory,
+    }
 }
 
 #[test]

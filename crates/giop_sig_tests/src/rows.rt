@@ -2,7 +2,6 @@
 
 use giop_sig::{Catalogue, ListFault, ListFaultKind, Requests, SigFault, SigFaultKind};
 use std::alloc::Global;
-use std::test::Fail;
 
 /// The number and the word of each rule of a signature file.
 pub static FILE_RULES: [(SigFaultKind, u32, &str); 9] = [
@@ -24,10 +23,12 @@ pub static LIST_RULES: [(ListFaultKind, u8, &str); 3] = [
     (ListFaultKind::OutOfMemory, 3, "out-of-memory"),
 ];
 
-/// What a row wants, and its text: `|` stands between.
-pub fn row_of(row: &[u8]) -> Result<(&str, &[u8]), Fail> {
-    let end = row.iter().position(|octet| *octet == b'|').ok_or("a row")?;
-    Ok((str::from_utf8(&row[..end])?, &row[end + 1..]))
+/// What a row wants, and its text: `|` stands between. A row without it wants nothing that is told.
+pub fn row_of(row: &[u8]) -> (&str, &[u8]) {
+    match row.iter().position(|octet| *octet == b'|') {
+        Some(end) => (str::from_utf8(&row[..end]).unwrap_or(""), &row[end + 1..]),
+        None => ("", row),
+    }
 }
 
 /// What differs in what is told of a signature file, which may have version 3 or may not: how many types, operations
@@ -39,12 +40,26 @@ pub fn file_differs(alloc: Global, third: bool, text: &[u8], want: &str) -> &'st
     }
 }
 
-fn parsed(alloc: Global, third: bool, text: &[u8]) -> Result<Catalogue, SigFault> {
-    if third {
+/// The catalogue of a file, which may have version 3 or may not. It is in a box: a function that holds a catalogue itself
+/// takes seconds to prove.
+pub fn parsed(alloc: Global, third: bool, text: &[u8]) -> Result<Box<Catalogue>, SigFault> {
+    let told = if third {
         Catalogue::parse_types(alloc, text)
     } else {
         Catalogue::parse(alloc, text)
+    };
+    match Box::new(alloc, told?) {
+        Ok(catalogue) => Ok(catalogue),
+        Err(_) => Err(SigFault {
+            line: 0,
+            kind: SigFaultKind::OutOfMemory,
+        }),
     }
+}
+
+/// The catalogue of a file of any version, if it is accepted.
+pub fn accepted(alloc: Global, text: &[u8]) -> Option<Box<Catalogue>> {
+    parsed(alloc, true, text).ok()
 }
 
 fn counts_differ(catalogue: &Catalogue, want: &str) -> &'static str {

@@ -1,8 +1,8 @@
 //! The program's arguments: what is counted, how it is written, and the file with the lines.
 
 use clap::{Arg, ArgAction, ArgMatches, Command, Error};
-use giop_run::marked;
-use giop_stat_counts::{By, Settings, Window, is_time};
+use giop_run::words_with_stand_ins;
+use giop_stat_counts::{Grouping, Settings, Window, is_time};
 use std::alloc::{AllocError, Global};
 
 const ABOUT: &str =
@@ -99,14 +99,14 @@ impl<'a> Arguments<'a> {
 
 fn matches_of<'a>(alloc: Global, words: &'a [String]) -> Result<ArgMatches<'a>, Error> {
     // If something is wrong with the words, the error's text is made of the marked words.
-    command(alloc)?.try_get_matches_from(marked(alloc, words)?.as_slice())?;
+    command(alloc)?.try_get_matches_from(words_with_stand_ins(alloc, words)?.as_slice())?;
     command(alloc)?.try_get_matches_from(words)
 }
 
 fn settings_of<'a>(matches: &ArgMatches<'a>) -> Result<Settings<'a>, ArgumentError<'a>> {
     let by = match matches.get_str("by") {
         None => None,
-        Some(word) => match By::of(word) {
+        Some(word) => match Grouping::of_word(word) {
             None => return Err(ArgumentError::By(word)),
             by => by,
         },

@@ -3,7 +3,7 @@
 ghost use Rattle.std.specs.Prelude.{◌≤◌};
 
 use crate::arguments::{ArgumentError, Arguments};
-use giop_run::{ProgramError, ShownName, failed, refused, words};
+use giop_run::{ProgramError, ShownName, command_line_words, print_clap_error, print_fault};
 use giop_stat_counts::Stat;
 use giop_views::run_view;
 
@@ -17,20 +17,20 @@ const USAGE: u8 = 2;
 pub(crate) fn program(rt: &HostRuntime) -> u8
     ensures { result ≤ 5 }
 {
-    let words = match words(rt) {
+    let words = match command_line_words(rt) {
         Ok(words) => words,
-        Err(fault) => return failed(rt, PROGRAM, &fault),
+        Err(fault) => return print_fault(rt, PROGRAM, &fault),
     };
     match Arguments::read(rt.alloc(), words.as_slice()) {
-        Err(ArgumentError::Words(error)) => refused(rt, PROGRAM, &error),
-        Err(ArgumentError::By(word)) => refused_by(rt, word),
-        Err(ArgumentError::Time(word)) => refused_time(rt, word),
-        Ok(asked) => view(rt, asked),
+        Err(ArgumentError::Words(error)) => print_clap_error(rt, PROGRAM, &error),
+        Err(ArgumentError::By(word)) => print_bad_grouping(rt, word),
+        Err(ArgumentError::Time(word)) => print_bad_time(rt, word),
+        Ok(asked) => run_asked(rt, asked),
     }
 }
 
 /// Prints that a word names nothing to count by. Returns the program's status.
-fn refused_by(rt: &HostRuntime, word: &str) -> u8
+fn print_bad_grouping(rt: &HostRuntime, word: &str) -> u8
     ensures { result ≤ 5 }
 {
     let _ = eprintln!(rt;
@@ -41,7 +41,7 @@ fn refused_by(rt: &HostRuntime, word: &str) -> u8
 }
 
 /// Prints that a word is no time. Returns the program's status.
-fn refused_time(rt: &HostRuntime, word: &str) -> u8
+fn print_bad_time(rt: &HostRuntime, word: &str) -> u8
     ensures { result ≤ 5 }
 {
     let _ = eprintln!(rt;
@@ -52,11 +52,11 @@ fn refused_time(rt: &HostRuntime, word: &str) -> u8
 }
 
 /// Takes the steps after the words of the command line. Returns the program's status.
-fn view(rt: &HostRuntime, asked: Arguments<'_>) -> u8
+fn run_asked(rt: &HostRuntime, asked: Arguments<'_>) -> u8
     ensures { result ≤ 5 }
 {
     let Ok(stat) = Stat::new(rt.alloc(), asked.settings) else {
-        return failed(rt, PROGRAM, &ProgramError::OutOfMemory);
+        return print_fault(rt, PROGRAM, &ProgramError::OutOfMemory);
     };
     run_view(rt, PROGRAM, asked.file, stat)
 }

@@ -15,7 +15,7 @@ pub(crate) const BELOW: usize = 0;
 pub(crate) const ABOVE: usize = BUCKETS - 1;
 
 /// The bucket for a number of nanoseconds.
-pub(crate) fn bucket(time: i128) -> usize
+pub(crate) fn bucket_of(time: i128) -> usize
     ensures { result < 1282 }
 {
     match u64::try_from(time) {
@@ -45,17 +45,17 @@ fn bucket_from_zero(time: u64) -> usize
 }
 
 /// The middle of a bucket that is neither the first nor the last one.
-pub(crate) fn middle(bucket: usize) -> u64
+pub(crate) fn middle_of_bucket(bucket: usize) -> u64
     requires { (0 < bucket) × (bucket < 1281) }
     ensures { IsMiddleOf bucket result }
 {
-    let (after, digits) = parts_of(bucket as u64 - 1);
-    let width = width_of(after);
+    let (after, digits) = after_and_first_digits(bucket as u64 - 1);
+    let width = bucket_width(after);
     digits * width + width / 2
 }
 
 /// How many numbers have the same first binary digits, if this number of digits follow these.
-fn width_of(after: u64) -> u64
+fn bucket_width(after: u64) -> u64
     requires { after ≤ 38 }
     ensures value { result ≡ 2 ^ after }
     ensures most { result ≤ 2 ^ 38 }
@@ -65,7 +65,7 @@ fn width_of(after: u64) -> u64
 
 /// How many binary digits follow the first ones in the numbers of a bucket, and these first digits. The number of the
 /// bucket is `index` + 1.
-fn parts_of(index: u64) -> (u64, u64)
+fn after_and_first_digits(index: u64) -> (u64, u64)
     requires { index < 1280 }
     ensures index { index ≡ 32 * result.0 + result.1 }
     ensures after { result.0 ≤ 38 }
@@ -79,14 +79,15 @@ fn parts_of(index: u64) -> (u64, u64)
     (after, index - 32 * after)
 }
 
-/// The bucket that the number with rank `due` is in, by the counts of the buckets; the number of buckets if none has it.
-pub(crate) fn bucket_at(counts: &[u64], due: u64) -> usize
-    requires { 0 < due }
+/// The bucket that the number of this rank, from 1, is in, by the counts of the buckets; the number of buckets if none has
+/// it.
+pub(crate) fn bucket_of_rank(counts: &[u64], rank: u64) -> usize
+    requires { 0 < rank }
     ensures within { result ≤ length counts.now }
-    ensures before { sum (take result counts.now) < due }
-    ensures reached { result < length counts.now → due ≤ sum (take (result + 1) counts.now) }
+    ensures before { sum (take result counts.now) < rank }
+    ensures reached { result < length counts.now → rank ≤ sum (take (result + 1) counts.now) }
 {
-    let mut left = due;
+    let mut left = rank;
     for i in 0..counts.len() {
         if left <= counts[i] {
             return i;

@@ -4,7 +4,7 @@ use crate::window::Window;
 
 /// What calls are counted by, in addition to their operation.
 #[derive(Clone, Copy, Debug, Drop, PartialEq, Eq)]
-pub enum By<'a> {
+pub enum Grouping<'a> {
     /// The client's address.
     Client,
     /// The server's address and port.
@@ -15,16 +15,16 @@ pub enum By<'a> {
     Path(&'a str),
 }
 
-impl<'a> By<'a> {
+impl<'a> Grouping<'a> {
     /// What a word of the command line stands for: a path below `header` or `body`, or one of three words.
-    pub fn of(word: &'a str) -> Option<By<'a>> {
+    pub fn of_word(word: &'a str) -> Option<Grouping<'a>> {
         match word {
-            "client" => Some(By::Client),
-            "server" => Some(By::Server),
-            "object" => Some(By::Object),
+            "client" => Some(Grouping::Client),
+            "server" => Some(Grouping::Server),
+            "object" => Some(Grouping::Object),
             path => {
                 if is_path_below(path.as_bytes()) {
-                    Some(By::Path(path))
+                    Some(Grouping::Path(path))
                 } else {
                     None
                 }
@@ -33,12 +33,12 @@ impl<'a> By<'a> {
     }
 
     /// The title of the column for it.
-    pub(crate) fn title(self) -> &'a str {
+    pub(crate) fn column_title(self) -> &'a str {
         match self {
-            By::Client => "client",
-            By::Server => "server",
-            By::Object => "object",
-            By::Path(path) => path,
+            Grouping::Client => "client",
+            Grouping::Server => "server",
+            Grouping::Object => "object",
+            Grouping::Path(path) => path,
         }
     }
 }
@@ -67,7 +67,7 @@ fn is_path_below(path: &[u8]) -> bool {
 #[derive(Clone, Copy, Debug, Drop)]
 pub struct Settings<'a> {
     /// What calls are counted by in addition to their operation, if by anything.
-    pub by: Option<By<'a>>,
+    pub by: Option<Grouping<'a>>,
     /// The times of the messages that are counted.
     pub window: Window<'a>,
     /// Whether one JSON object is written.

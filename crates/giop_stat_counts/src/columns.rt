@@ -20,16 +20,16 @@ struct Cells {
 
 /// A table as text.
 #[derive(Drop)]
-pub(crate) struct Sheet {
+pub(crate) struct TextTable {
     alloc: Global,
     columns: Vec<Column>,
     rows: Vec<Cells>,
 }
 
-impl Sheet {
+impl TextTable {
     /// Makes a table without lines.
-    pub(crate) fn new(alloc: Global) -> Sheet {
-        Sheet {
+    pub(crate) fn new(alloc: Global) -> TextTable {
+        TextTable {
             alloc,
             columns: Vec::new(alloc),
             rows: Vec::new(alloc),
@@ -37,12 +37,12 @@ impl Sheet {
     }
 
     /// Whether there is only the line of titles.
-    pub(crate) fn is_empty(&self) -> bool {
+    pub(crate) fn has_only_titles(&self) -> bool {
         self.rows.len() <= 1
     }
 
     /// Begins a line.
-    pub(crate) fn line(&mut self) -> Result<(), AllocError> {
+    pub(crate) fn begin_line(&mut self) -> Result<(), AllocError> {
         let line = Cells {
             cells: Vec::new(self.alloc),
             below: Vec::new(self.alloc),
@@ -52,7 +52,7 @@ impl Sheet {
     }
 
     /// Adds a cell to the last line. The cells of the first line are the titles.
-    pub(crate) fn cell(&mut self, text: Vec<u8>, is_name: bool) -> Result<(), AllocError> {
+    pub(crate) fn add_cell(&mut self, text: Vec<u8>, is_name: bool) -> Result<(), AllocError> {
         let is_first = self.rows.len() <= 1;
         let Some(line) = self.rows.last_mut() else {
             return Ok(());
@@ -76,7 +76,7 @@ impl Sheet {
     }
 
     /// Adds a text below the last line.
-    pub(crate) fn below(&mut self, text: &[u8]) -> Result<(), AllocError> {
+    pub(crate) fn add_below(&mut self, text: &[u8]) -> Result<(), AllocError> {
         match self.rows.last_mut() {
             None => Ok(()),
             Some(line) => line.below.extend_from_slice(text),
@@ -84,7 +84,7 @@ impl Sheet {
     }
 
     /// Appends the lines.
-    pub(crate) fn put(&self, text: &mut Vec<u8>) -> Result<(), AllocError> {
+    pub(crate) fn put_lines(&self, text: &mut Vec<u8>) -> Result<(), AllocError> {
         for line in &self.rows {
             let start = text.len();
             for (column, cell) in self.columns.iter().zip(&line.cells) {
@@ -92,7 +92,7 @@ impl Sheet {
                     put_cell(text, column, cell, text.len() == start)?;
                 }
             }
-            trim(text);
+            trim_end_spaces(text);
             text.push(b'\n')?;
             text.extend_from_slice(&line.below)?;
         }
@@ -124,7 +124,7 @@ fn put_cell(
 }
 
 /// Takes away the spaces at the end.
-fn trim(text: &mut Vec<u8>) {
+fn trim_end_spaces(text: &mut Vec<u8>) {
     for _ in 0..text.len() {
         if text.last() != Some(&b' ') {
             break;

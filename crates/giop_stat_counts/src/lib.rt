@@ -18,6 +18,6 @@ mod text_rows;
 mod times;
 mod window;
 
-pub use choice::{By, Settings};
+pub use choice::{Grouping, Settings};
 pub use stat::Stat;
 pub use window::{Window, is_time};

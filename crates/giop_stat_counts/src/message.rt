@@ -1,9 +1,9 @@
 //! What is kept of a message in addition to its facts: the value that it is counted by.
 
-use crate::choice::By;
+use crate::choice::Grouping;
 use giop_cdr::Order;
 use giop_lines::{Content, Value};
-use giop_view_parts::{Own, object_text};
+use giop_view_parts::{ViewData, append_hex_as_text};
 use std::alloc::{AllocError, Global};
 
 /// The greatest length of a value that calls are counted by, in octets. A longer value is cut.
@@ -11,13 +11,13 @@ const VALUE_MAX: usize = 128;
 
 /// The value that a message is counted by. It is empty if it isn't known.
 #[derive(Drop)]
-pub struct Counted {
+pub struct GroupingValue {
     pub(crate) value: Vec<u8>,
 }
 
-impl Own for Counted {
-    fn new(alloc: Global) -> Counted {
-        Counted {
+impl ViewData for GroupingValue {
+    fn new(alloc: Global) -> GroupingValue {
+        GroupingValue {
             value: Vec::new(alloc),
         }
     }
@@ -26,27 +26,30 @@ impl Own for Counted {
         self.value.clear();
     }
 
-    fn size(&self) -> u64 {
+    fn text_octets(&self) -> u64 {
         0
     }
 }
 
-impl Counted {
+impl GroupingValue {
     /// Takes a value, if the message is counted by it.
-    pub(crate) fn take(
+    pub(crate) fn take_value(
         &mut self,
-        by: By<'_>,
+        by: Grouping<'_>,
         path: &[u8],
         value: Value<'_>,
     ) -> Result<(), AllocError> {
         match by {
-            By::Path(wanted) if path == wanted.as_bytes() => put_value(&mut self.value, value)?,
-            By::Object => {
+            Grouping::Path(wanted) if path == wanted.as_bytes() => put_value(
+                &mut self.value,
+                value,
+            )?,
+            Grouping::Object => {
                 if let Value::Piece(piece) = value
                     && !matches!(piece.content, Content::Text | Content::Rest)
                     && matches!(path, b"header.object_key" | b"header.target.object_key")
                 {
-                    object_text(&mut self.value, piece.octets)?;
+                    append_hex_as_text(&mut self.value, piece.octets)?;
                 }
             }
             _ => {}
@@ -69,8 +72,8 @@ fn put_value(text: &mut Vec<u8>, value: Value<'_>) -> Result<(), AllocError> {
         | Value::Named(number, _)
         | Value::Count(number)
         | Value::Encapsulation(number) => put_number(text, number),
-        Value::Float(bits) => put_bits(text, u64::from(bits), 8),
-        Value::Double(bits) => put_bits(text, bits, 16),
+        Value::Float(bits) => put_hex_digits(text, u64::from(bits), 8),
+        Value::Double(bits) => put_hex_digits(text, bits, 16),
         Value::Boolean(true) => text.extend_from_slice(b"true"),
         Value::Boolean(false) => text.extend_from_slice(b"false"),
         Value::Order(Order::Big) => text.extend_from_slice(b"big"),
@@ -85,7 +88,7 @@ fn put_number<I: itoa::Integer>(text: &mut Vec<u8>, number: I) -> Result<(), All
 }
 
 /// Appends bits as this number of hexadecimal digits.
-fn put_bits(text: &mut Vec<u8>, bits: u64, count: u32) -> Result<(), AllocError> {
+fn put_hex_digits(text: &mut Vec<u8>, bits: u64, count: u32) -> Result<(), AllocError> {
     let digits = b"0123456789abcdef";
     for index in 0..count.min(16) {
         let after = count.min(16) - 1 - index;

@@ -1,9 +1,9 @@
 //! The counts of a row.
 
 ghost use Rattle.std.specs.Prelude.{◌≡◌, ◌-◌, ◌&&◌, true, not};
-ghost use Rattle.giop_stat_counts.specs.Counts.{plus};
+ghost use Rattle.giop_stat_counts.specs.Counts.{plus_one_if};
 
-use crate::message::Counted;
+use crate::message::GroupingValue;
 use crate::times::Times;
 use giop_view_parts::{Facts, Kind, Message, Status};
 use std::alloc::{AllocError, Global};
@@ -62,19 +62,19 @@ impl Row {
     }
 
     /// The repository ids of the exceptions, and how often each came.
-    pub(crate) fn ids(&self) -> &[(Vec<u8>, u64)] {
+    pub(crate) fn exception_ids(&self) -> &[(Vec<u8>, u64)] {
         &self.ids
     }
 
     /// Counts a message. `time` is the nanoseconds between a reply and its call, if they are known.
-    pub(crate) fn add(
+    pub(crate) fn add_message(
         &mut self,
-        message: &Message<Counted>,
+        message: &Message<GroupingValue>,
         time: Option<i128>,
     ) -> Result<(), AllocError> {
         let facts = &message.facts;
         self.octets = self.octets.saturating_add(message.octets);
-        self.faults = plus(self.faults, !facts.fault.is_none());
+        self.faults = plus_one_if(self.faults, !facts.fault.is_none());
         match facts.kind() {
             Kind::Request if !facts.operation.is_empty() => {
                 self.add_call(message.key.stream > 0, facts.is_oneway)
@@ -85,26 +85,27 @@ impl Row {
         if facts.raises.is_empty() {
             return Ok(());
         }
-        self.add_id(&facts.raises, 1)
+        self.add_exception_id(&facts.raises, 1)
     }
 
     fn add_call(&mut self, is_captured: bool, is_oneway: bool)
-        ensures calls { self.new.calls ≡ plus self.old.calls true }
-        ensures oneways { self.new.oneways ≡ plus self.old.oneways is_oneway }
-        ensures awaited { self.new.awaited ≡ plus self.old.awaited (is_captured && not is_oneway) }
+        ensures calls { self.new.calls ≡ plus_one_if self.old.calls true }
+        ensures oneways { self.new.oneways ≡ plus_one_if self.old.oneways is_oneway }
+        ensures awaited { self.new.awaited ≡ plus_one_if self.old.awaited
+            (is_captured && not is_oneway) }
     {
-        self.calls = plus(self.calls, true);
-        self.oneways = plus(self.oneways, is_oneway);
-        self.awaited = plus(self.awaited, is_captured && !is_oneway);
+        self.calls = plus_one_if(self.calls, true);
+        self.oneways = plus_one_if(self.oneways, is_oneway);
+        self.awaited = plus_one_if(self.awaited, is_captured && !is_oneway);
     }
 
     fn add_reply(&mut self, reply: &Facts, time: Option<i128>) -> Result<(), AllocError>
-        ensures { self.new.replies ≡ plus self.old.replies true }
+        ensures { self.new.replies ≡ plus_one_if self.old.replies true }
     {
-        self.replies = plus(self.replies, true);
-        self.answered = plus(self.answered, reply.answers.is_some());
-        self.user = plus(self.user, reply.status == Status::User);
-        self.system = plus(self.system, reply.status == Status::System);
+        self.replies = plus_one_if(self.replies, true);
+        self.answered = plus_one_if(self.answered, reply.answers.is_some());
+        self.user = plus_one_if(self.user, reply.status == Status::User);
+        self.system = plus_one_if(self.system, reply.status == Status::System);
         match time {
             None => Ok(()),
             Some(time) => self.times.add(time),
@@ -112,8 +113,8 @@ impl Row {
     }
 
     /// Counts this number of exceptions with this repository id.
-    fn add_id(&mut self, id: &[u8], count: u64) -> Result<(), AllocError> {
-        if self.count_known(id, count) {
+    fn add_exception_id(&mut self, id: &[u8], count: u64) -> Result<(), AllocError> {
+        if self.add_to_known_id(id, count) {
             return Ok(());
         }
         let name = if self.ids.len() >= IDS_MAX {
@@ -121,7 +122,7 @@ impl Row {
         } else {
             id
         };
-        if self.count_known(name, count) {
+        if self.add_to_known_id(name, count) {
             return Ok(());
         }
         self.ids.push((Vec::from_slice(self.alloc, name)?, count))?;
@@ -129,7 +130,7 @@ impl Row {
     }
 
     /// Counts exceptions with a repository id that came before. Returns whether it came before.
-    fn count_known(&mut self, id: &[u8], count: u64) -> bool {
+    fn add_to_known_id(&mut self, id: &[u8], count: u64) -> bool {
         let Some(index) = self.ids.iter().position(|known| known.0.as_slice() == id) else {
             return false;
         };
@@ -140,7 +141,7 @@ impl Row {
     }
 
     /// Adds all counts of another row without buckets.
-    pub(crate) fn join(&mut self, other: &Row) -> Result<(), AllocError> {
+    pub(crate) fn add_all(&mut self, other: &Row) -> Result<(), AllocError> {
         self.calls = self.calls.saturating_add(other.calls);
         self.oneways = self.oneways.saturating_add(other.oneways);
         self.replies = self.replies.saturating_add(other.replies);
@@ -151,18 +152,18 @@ impl Row {
         self.octets = self.octets.saturating_add(other.octets);
         self.awaited = self.awaited.saturating_add(other.awaited);
         self.answered = self.answered.saturating_add(other.answered);
-        self.times.join(&other.times);
+        self.times.add_all(&other.times);
         for i in 0..other.ids.len() {
             let (id, count) = &other.ids[i];
-            self.add_id(id, *count)?;
+            self.add_exception_id(id, *count)?;
         }
         Ok(())
     }
 }
 
 /// A count, or one more if `is_one_more` is true.
-pub(crate) fn plus(count: u64, is_one_more: bool) -> u64
-    ensures { result ≡ plus count is_one_more }
+pub(crate) fn plus_one_if(count: u64, is_one_more: bool) -> u64
+    ensures { result ≡ plus_one_if count is_one_more }
 {
     count.saturating_add(u64::from(is_one_more))
 }

@@ -1,7 +1,7 @@
 //! Seconds with nine digits after the point, and how many nanoseconds they are.
 
 ghost use Rattle.std.specs.Prelude.{◌≡◌, ◌+◌, ◌++◌, ◌/◌, ◌^◌, ◌<◌, OnOk};
-ghost use Rattle.giop_stat_counts.specs.Seconds.{fraction, indexs};
+ghost use Rattle.giop_stat_counts.specs.Seconds.{fraction, digits_after_first};
 
 use std::alloc::AllocError;
 
@@ -12,7 +12,7 @@ const SECOND: u64 = 1_000_000_000;
 const MICROSECOND: u64 = 1_000;
 
 /// How many nanoseconds these seconds with nine digits after the point are; None if there is no digit.
-pub(crate) fn nanoseconds(text: &[u8]) -> Option<i128> {
+pub(crate) fn nanoseconds_of_seconds(text: &[u8]) -> Option<i128> {
     let (digits, is_negative) = match text {
         [b'-', digits @ ..] => (digits, true),
         digits => (digits, false),
@@ -68,12 +68,12 @@ fn put_fraction(text: &mut Vec<u8>, number: u128, parts: u64) -> Result<(), Allo
     let mut buffer = itoa::Buffer::new();
     text.extend_from_slice(buffer.format(number / parts).as_bytes())?;
     text.extend_from_slice(b".")?;
-    put_indexs(text, parts + number % parts)
+    put_digits_after_first(text, parts + number % parts)
 }
 
 /// Appends the decimal digits of a number after the first one.
-fn put_indexs(text: &mut Vec<u8>, number: u128) -> Result<(), AllocError>
-    ensures { OnOk result (text.new.items ≡ text.old.items ++ indexs number) }
+fn put_digits_after_first(text: &mut Vec<u8>, number: u128) -> Result<(), AllocError>
+    ensures { OnOk result (text.new.items ≡ text.old.items ++ digits_after_first number) }
 {
     let mut buffer = itoa::Buffer::new();
     let digits = buffer.format(number).as_bytes();

@@ -7,7 +7,7 @@ use std::cmp::Ordering;
 
 /// The rows of a table in their order: those with the most time first; of these, those with the most calls first; of these,
 /// those with the most octets first; and of these by their names.
-pub(crate) fn sorted<'a>(
+pub(crate) fn sorted_rows<'a>(
     alloc: Global,
     table: &'a Table,
 ) -> Result<Vec<(&'a str, &'a Row)>, AllocError> {
@@ -19,22 +19,24 @@ pub(crate) fn sorted<'a>(
     Ok(rows)
 }
 
-fn compare_rows(a: (&str, &Row), b: (&str, &Row)) -> Ordering {
-    b.1.times
+fn compare_rows(row: (&str, &Row), other: (&str, &Row)) -> Ordering {
+    other
+        .1
+        .times
         .total()
-        .cmp(&a.1.times.total())
-        .then(b.1.calls.cmp(&a.1.calls))
-        .then(b.1.octets.cmp(&a.1.octets))
-        .then(a.0.cmp(b.0))
+        .cmp(&row.1.times.total())
+        .then(other.1.calls.cmp(&row.1.calls))
+        .then(other.1.octets.cmp(&row.1.octets))
+        .then(row.0.cmp(other.0))
 }
 
 /// The repository ids of a row in their order: those that came most often first, and of these by their names.
-pub(crate) fn sorted_ids<'a>(
+pub(crate) fn sorted_exception_ids<'a>(
     alloc: Global,
     row: &'a Row,
 ) -> Result<Vec<(&'a [u8], u64)>, AllocError> {
     let mut ids = Vec::new(alloc);
-    let known = row.ids();
+    let known = row.exception_ids();
     for i in 0..known.len() {
         let (id, count) = &known[i];
         ids.push((id.as_slice(), *count))?;

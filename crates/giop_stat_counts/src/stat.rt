@@ -1,14 +1,14 @@
 //! The calls of a dump, counted, and what is written at the dump's end.
 
 use crate::choice::Settings;
-use crate::json_rows::json_of;
-use crate::message::Counted;
+use crate::json_rows::json_of_tables;
+use crate::message::GroupingValue;
 use crate::tables::Tables;
 use crate::text_rows::text_of_tables;
-use giop_lines::{Said, Value};
+use giop_lines::{Statement, Value};
 use giop_print::Out;
 use giop_view_parts::{
-    Capture, Ending, Key, Kind, Maker, Message, Open, Stream, Streams, ViewError,
+    Capture, ConnectionEnding, Key, Kind, Maker, Message, Open, Stream, Streams, ViewError,
 };
 use lru::LruCache;
 use std::alloc::{AllocError, Global};
@@ -40,11 +40,15 @@ impl<'a> Stat<'a> {
     }
 
     /// Counts a message of a stream.
-    fn count(&mut self, stream: &Stream, message: &Message<Counted>) -> Result<(), AllocError> {
+    fn count_message(
+        &mut self,
+        stream: &Stream,
+        message: &Message<GroupingValue>,
+    ) -> Result<(), AllocError> {
         let facts = &message.facts;
         let kind = facts.kind();
-        self.tables.talks.note(stream, kind, &facts.time)?;
-        if !self.settings.window.has(&facts.time) {
+        self.tables.talks.note_message(stream, kind, &facts.time)?;
+        if !self.settings.window.contains_time(&facts.time) {
             return Ok(());
         }
         let called = match (kind, facts.answers) {
@@ -53,16 +57,18 @@ impl<'a> Stat<'a> {
         };
         let index = match called {
             Some(index) => index,
-            None => self.tables.index(self.settings.by, stream, message)?,
+            None => self
+                .tables
+                .operation_index(self.settings.by, stream, message)?,
         };
-        self.tables.add(index, stream, message)?;
+        self.tables.add_message(index, stream, message)?;
         self.await_reply(message, index)
     }
 
     /// Notes the row of a call that expects a reply.
     fn await_reply(
         &mut self,
-        message: &Message<Counted>,
+        message: &Message<GroupingValue>,
         index: Option<usize>,
     ) -> Result<(), AllocError> {
         let facts = &message.facts;
@@ -79,18 +85,18 @@ impl<'a> Stat<'a> {
 }
 
 impl Maker for Stat<'_> {
-    type Own = Counted;
+    type ViewData = GroupingValue;
 
     #[inline]
     fn take_value(
         &mut self,
-        message: &mut Message<Counted>,
+        message: &mut Message<GroupingValue>,
         path: &[u8],
         value: Value<'_>,
     ) -> Result<(), AllocError> {
         match self.settings.by {
             None => Ok(()),
-            Some(by) => message.own.take(by, path, value),
+            Some(by) => message.own.take_value(by, path, value),
         }
     }
 
@@ -98,28 +104,28 @@ impl Maker for Stat<'_> {
         &mut self,
         _out: &mut O,
         streams: &Streams,
-        open: &mut Open<Counted>,
-        message: Box<Message<Counted>>,
+        open: &mut Open<GroupingValue>,
+        message: Box<Message<GroupingValue>>,
     ) -> Result<(), ViewError> {
         if let Some(stream) = streams.get(message.key.stream) {
-            self.count(stream, &message)?;
+            self.count_message(stream, &message)?;
         }
-        open.give_room(message)?;
+        open.keep_spare(message)?;
         Ok(())
     }
 
-    fn take_of_stream<O: Out>(
+    fn take_stream_line<O: Out>(
         &mut self,
         _out: &mut O,
         stream: &Stream,
-        said: Said<'_>,
+        said: Statement<'_>,
     ) -> Result<(), ViewError> {
-        self.capture.take(said)?;
+        self.capture.take_statement(said)?;
         match said {
-            Said::Stream(_) => self.tables.talks.begin(stream)?,
-            Said::StreamFault(_) => self.tables.add_loss(self.settings.by, stream, false)?,
-            Said::Closed(word) => {
-                self.tables.talks.close(stream, word)?;
+            Statement::Stream(_) => self.tables.talks.begin_stream(stream)?,
+            Statement::StreamFault(_) => self.tables.add_loss(self.settings.by, stream, false)?,
+            Statement::Closed(word) => {
+                self.tables.talks.close_stream(stream, word)?;
                 if word == b"gap".as_slice() {
                     self.tables.add_loss(self.settings.by, stream, true)?;
                 }
@@ -133,18 +139,22 @@ impl Maker for Stat<'_> {
         &mut self,
         _out: &mut O,
         stream: &Stream,
-        ending: Ending,
-        _open: &mut Open<Counted>,
+        ending: ConnectionEnding,
+        _open: &mut Open<GroupingValue>,
     ) -> Result<(), ViewError> {
         if ending.is_over {
-            self.tables.talks.end(stream.connection)?;
+            self.tables.talks.note_end(stream.connection)?;
         }
         Ok(())
     }
 
-    fn finish<O: Out>(&mut self, out: &mut O, _open: &mut Open<Counted>) -> Result<(), ViewError> {
+    fn finish<O: Out>(
+        &mut self,
+        out: &mut O,
+        _open: &mut Open<GroupingValue>,
+    ) -> Result<(), ViewError> {
         let text = if self.settings.is_json {
-            json_of(self.alloc, self.settings.by, &self.tables, &self.capture)?
+            json_of_tables(self.alloc, self.settings.by, &self.tables, &self.capture)?
         } else {
             text_of_tables(self.alloc, self.settings, &self.tables, &self.capture)?
         };
@@ -152,11 +162,11 @@ impl Maker for Stat<'_> {
         Ok(())
     }
 
-    fn make_room<O: Out>(
+    fn reduce_held_text<O: Out>(
         &mut self,
         _out: &mut O,
         _streams: &Streams,
-        _open: &mut Open<Counted>,
+        _open: &mut Open<GroupingValue>,
     ) -> Result<(), ViewError> {
         Ok(())
     }

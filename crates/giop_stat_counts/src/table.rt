@@ -39,7 +39,7 @@ impl Table {
     }
 
     /// The index of the row with these names; None if the row is counted with the others.
-    pub(crate) fn index(&mut self, names: &str) -> Result<Option<usize>, AllocError> {
+    pub(crate) fn index_or_insert(&mut self, names: &str) -> Result<Option<usize>, AllocError> {
         if let Some(index) = self.rows.get_index_of(names) {
             return Ok(Some(index));
         }

@@ -4,14 +4,14 @@ ghost use Rattle.std.specs.Prelude.{◌<◌};
 
 use crate::row::Row;
 use crate::table::ROWS_MAX;
-use giop_view_parts::{Kind, Of, Stream, replace};
+use giop_view_parts::{ConnectionId, Kind, Stream, replace_octets};
 use lru::LruCache;
 use std::alloc::{AllocError, Global};
 use std::collections::VecDeque;
 
 /// The row of a connection. What is empty isn't known.
 #[derive(Drop)]
-pub(crate) struct Talk {
+pub(crate) struct ConnectionRow {
     /// The number of its first stream.
     pub(crate) number: u64,
     // The sender and the receiver of its first stream, and the words with which the last stream of each closed.
@@ -29,9 +29,9 @@ pub(crate) struct Talk {
     pub(crate) row: Row,
 }
 
-impl Talk {
-    fn new(alloc: Global, number: u64, stream: &Stream) -> Result<Talk, AllocError> {
-        Ok(Talk {
+impl ConnectionRow {
+    fn new(alloc: Global, number: u64, stream: &Stream) -> Result<ConnectionRow, AllocError> {
+        Ok(ConnectionRow {
             number,
             ends: [
                 Vec::from_slice(alloc, &stream.source)?,
@@ -48,7 +48,7 @@ impl Talk {
     }
 
     /// Which of its two endpoints sends a stream: 0 or 1.
-    fn side_of(&self, stream: &Stream) -> usize
+    fn sender_index(&self, stream: &Stream) -> usize
         ensures { result < 2 }
     {
         let [first, _] = &self.ends;
@@ -60,7 +60,7 @@ impl Talk {
     }
 
     /// The endpoint of the server or of the client.
-    pub(crate) fn end(&self, is_server: bool) -> &[u8] {
+    pub(crate) fn endpoint(&self, is_server: bool) -> &[u8] {
         let [first, second] = &self.ends;
         if self.is_turned == is_server {
             first
@@ -70,7 +70,7 @@ impl Talk {
     }
 
     /// The word with which the last stream of the server or of the client closed.
-    pub(crate) fn word(&self, is_server: bool) -> &[u8] {
+    pub(crate) fn closing_word(&self, is_server: bool) -> &[u8] {
         let [first, second] = &self.closed;
         if self.is_turned == is_server {
             first
@@ -80,19 +80,19 @@ impl Talk {
     }
 
     /// Notes the word with which a stream closed. A stream that begins has no word.
-    fn note_word(&mut self, stream: &Stream, word: &[u8]) -> Result<(), AllocError> {
-        let side = self.side_of(stream);
-        replace(&mut self.closed[side], word)
+    fn note_closing_word(&mut self, stream: &Stream, word: &[u8]) -> Result<(), AllocError> {
+        let side = self.sender_index(stream);
+        replace_octets(&mut self.closed[side], word)
     }
 
     /// Notes whether a server sends the stream, if the message tells it, and the time of the message.
-    fn note(&mut self, stream: &Stream, kind: Kind, time: &[u8]) -> Result<(), AllocError> {
+    fn note_message(&mut self, stream: &Stream, kind: Kind, time: &[u8]) -> Result<(), AllocError> {
         if kind.is_of_server().is_some() {
-            let is_from_second = self.side_of(stream) == 1;
+            let is_from_second = self.sender_index(stream) == 1;
             self.is_turned = is_from_second != stream.is_of_server;
         }
         if time > self.last.as_slice() {
-            replace(&mut self.last, time)?;
+            replace_octets(&mut self.last, time)?;
         }
         Ok(())
     }
@@ -100,18 +100,18 @@ impl Talk {
 
 /// The rows of connections, in the order in which they began.
 #[derive(Drop)]
-pub(crate) struct Talks {
+pub(crate) struct ConnectionRows {
     alloc: Global,
-    rows: LruCache<u64, Talk>,
+    rows: LruCache<u64, ConnectionRow>,
     // The connections that ended, in the order in which they did.
     ended: VecDeque<u64>,
     others: Option<Row>,
     begun: u64,
 }
 
-impl Talks {
-    pub(crate) fn new(alloc: Global) -> Result<Talks, AllocError> {
-        Ok(Talks {
+impl ConnectionRows {
+    pub(crate) fn new(alloc: Global) -> Result<ConnectionRows, AllocError> {
+        Ok(ConnectionRows {
             alloc,
             rows: LruCache::unbounded(alloc)?,
             ended: VecDeque::new(alloc),
@@ -121,7 +121,7 @@ impl Talks {
     }
 
     /// The rows, the last one first.
-    pub(crate) fn rows(&self) -> &LruCache<u64, Talk> {
+    pub(crate) fn rows(&self) -> &LruCache<u64, ConnectionRow> {
         &self.rows
     }
 
@@ -134,9 +134,9 @@ impl Talks {
     }
 
     /// The row of a connection.
-    pub(crate) fn row(&mut self, of: Option<Of>) -> Option<&mut Row> {
-        let of = of?;
-        match self.rows.peek_mut(&of.id) {
+    pub(crate) fn row_of(&mut self, connection: Option<ConnectionId>) -> Option<&mut Row> {
+        let connection = connection?;
+        match self.rows.peek_mut(&connection.id) {
             Some(talk) => Some(&mut talk.row),
             None => match &mut self.others {
                 None => None,
@@ -146,27 +146,27 @@ impl Talks {
     }
 
     /// Counts a stream that begins. If it is the first one of its connection, the connection gets a row.
-    pub(crate) fn begin(&mut self, stream: &Stream) -> Result<(), AllocError> {
-        let Some(of) = stream.connection else {
+    pub(crate) fn begin_stream(&mut self, stream: &Stream) -> Result<(), AllocError> {
+        let Some(connection) = stream.connection else {
             return Ok(());
         };
-        if of.id > self.begun {
-            self.begun = of.id;
+        if connection.id > self.begun {
+            self.begun = connection.id;
             if self.rows.len() >= ROWS_MAX {
-                self.drop_one()?;
+                self.add_one_to_others()?;
             }
-            let talk = Talk::new(self.alloc, of.number, stream)?;
-            self.rows.put(of.id, talk)?;
+            let talk = ConnectionRow::new(self.alloc, connection.number, stream)?;
+            self.rows.put(connection.id, talk)?;
         }
-        if let Some(talk) = self.rows.peek_mut(&of.id) {
+        if let Some(talk) = self.rows.peek_mut(&connection.id) {
             talk.streams = talk.streams.saturating_add(1);
-            talk.note_word(stream, b"")?;
+            talk.note_closing_word(stream, b"")?;
         }
         Ok(())
     }
 
     /// Counts one row with the others: the one that ended first, or, if none ended, the first one.
-    fn drop_one(&mut self) -> Result<(), AllocError> {
+    fn add_one_to_others(&mut self) -> Result<(), AllocError> {
         let mut gone = None;
         for _ in 0..self.ended.len() {
             let Some(id) = self.ended.pop_front() else {
@@ -190,48 +190,48 @@ impl Talks {
             Some(others) => others,
             None => Row::new(self.alloc, false),
         };
-        let joined = others.join(&talk.row);
+        let joined = others.add_all(&talk.row);
         self.others = Some(others);
         joined
     }
 
     /// Notes whether a server sends a stream, if the message tells it, and the time of the message.
-    pub(crate) fn note(
+    pub(crate) fn note_message(
         &mut self,
         stream: &Stream,
         kind: Kind,
         time: &[u8],
     ) -> Result<(), AllocError> {
-        let Some(of) = stream.connection else {
+        let Some(connection) = stream.connection else {
             return Ok(());
         };
-        match self.rows.peek_mut(&of.id) {
+        match self.rows.peek_mut(&connection.id) {
             None => Ok(()),
-            Some(talk) => talk.note(stream, kind, time),
+            Some(talk) => talk.note_message(stream, kind, time),
         }
     }
 
     /// Notes the word with which a stream closed.
-    pub(crate) fn close(&mut self, stream: &Stream, word: &[u8]) -> Result<(), AllocError> {
-        let Some(of) = stream.connection else {
+    pub(crate) fn close_stream(&mut self, stream: &Stream, word: &[u8]) -> Result<(), AllocError> {
+        let Some(connection) = stream.connection else {
             return Ok(());
         };
-        match self.rows.peek_mut(&of.id) {
+        match self.rows.peek_mut(&connection.id) {
             None => Ok(()),
-            Some(talk) => talk.note_word(stream, word),
+            Some(talk) => talk.note_closing_word(stream, word),
         }
     }
 
     /// Notes that a connection has ended.
-    pub(crate) fn end(&mut self, of: Option<Of>) -> Result<(), AllocError> {
-        let Some(of) = of else {
+    pub(crate) fn note_end(&mut self, connection: Option<ConnectionId>) -> Result<(), AllocError> {
+        let Some(connection) = connection else {
             return Ok(());
         };
-        if let Some(talk) = self.rows.peek_mut(&of.id)
+        if let Some(talk) = self.rows.peek_mut(&connection.id)
             && !talk.is_ended
         {
             talk.is_ended = true;
-            self.ended.push_back(of.id)?;
+            self.ended.push_back(connection.id)?;
         }
         Ok(())
     }

@@ -1,11 +1,11 @@
 //! The tables as text.
 
 use crate::choice::Settings;
-use crate::columns::Sheet;
-use crate::json_rows::{counts, named_times};
+use crate::columns::TextTable;
+use crate::json_rows::{named_counts, named_times};
 use crate::row::{OTHERS, Row};
 use crate::seconds::put_short_seconds;
-use crate::sorted::{sorted, sorted_ids};
+use crate::sorted::{sorted_exception_ids, sorted_rows};
 use crate::table::Table;
 use crate::tables::Tables;
 use giop_view_parts::Capture;
@@ -42,23 +42,23 @@ pub(crate) fn text_of_tables(
             &["interface", "operation"],
         )?,
         Some(by) => {
-            let titles = ["interface", "operation", by.title()];
+            let titles = ["interface", "operation", by.column_title()];
             put_table(alloc, &mut text, &tables.operations, &titles)?;
         }
     }
     put_table(alloc, &mut text, &tables.pairs, &["client", "server"])?;
     if settings.has_connections {
-        put_talks(alloc, &mut text, tables)?;
+        put_connections(alloc, &mut text, tables)?;
     }
     if !capture.is_empty() {
-        put_border(&mut text)?;
+        put_empty_line(&mut text)?;
         capture.put_lines(&mut text)?;
     }
     Ok(text)
 }
 
 /// Appends an empty line, if the text isn't empty.
-fn put_border(text: &mut Vec<u8>) -> Result<(), AllocError> {
+fn put_empty_line(text: &mut Vec<u8>) -> Result<(), AllocError> {
     if text.is_empty() {
         return Ok(());
     }
@@ -72,92 +72,92 @@ fn put_table(
     table: &Table,
     titles: &[&str],
 ) -> Result<(), AllocError> {
-    let mut sheet = Sheet::new(alloc);
+    let mut sheet = TextTable::new(alloc);
     put_titles(alloc, &mut sheet, titles)?;
-    for (names, row) in sorted(alloc, table)? {
-        sheet.line()?;
+    for (names, row) in sorted_rows(alloc, table)? {
+        sheet.begin_line()?;
         for name in names.split('\n') {
-            sheet.cell(Vec::from_slice(alloc, name.as_bytes())?, true)?;
+            sheet.add_cell(Vec::from_slice(alloc, name.as_bytes())?, true)?;
         }
         put_row(alloc, &mut sheet, row)?;
     }
     put_others(alloc, &mut sheet, table.others(), titles.len())?;
-    put_sheet(text, &sheet)
+    put_text_table(text, &sheet)
 }
 
 /// Appends the table of connections.
-fn put_talks(alloc: Global, text: &mut Vec<u8>, tables: &Tables) -> Result<(), AllocError> {
+fn put_connections(alloc: Global, text: &mut Vec<u8>, tables: &Tables) -> Result<(), AllocError> {
     let mut talks = Vec::new(alloc);
     for (_, talk) in tables.talks.rows().iter() {
         talks.push(talk)?;
     }
-    let mut sheet = Sheet::new(alloc);
+    let mut sheet = TextTable::new(alloc);
     put_titles(alloc, &mut sheet, &TALK)?;
     for talk in talks.iter().rev() {
-        sheet.line()?;
+        sheet.begin_line()?;
         put_number(alloc, &mut sheet, talk.number)?;
         for name in [
-            talk.end(false),
-            talk.end(true),
+            talk.endpoint(false),
+            talk.endpoint(true),
             &talk.opened,
             &talk.last,
-            talk.word(false),
-            talk.word(true),
+            talk.closing_word(false),
+            talk.closing_word(true),
         ] {
-            sheet.cell(Vec::from_slice(alloc, name)?, true)?;
+            sheet.add_cell(Vec::from_slice(alloc, name)?, true)?;
         }
         put_number(alloc, &mut sheet, talk.streams)?;
         put_row(alloc, &mut sheet, &talk.row)?;
     }
     put_others(alloc, &mut sheet, tables.talks.others(), TALK.len())?;
-    put_sheet(text, &sheet)
+    put_text_table(text, &sheet)
 }
 
 /// Appends a sheet, with an empty line before it.
-fn put_sheet(text: &mut Vec<u8>, sheet: &Sheet) -> Result<(), AllocError> {
-    if sheet.is_empty() {
+fn put_text_table(text: &mut Vec<u8>, sheet: &TextTable) -> Result<(), AllocError> {
+    if sheet.has_only_titles() {
         return Ok(());
     }
-    put_border(text)?;
-    sheet.put(text)
+    put_empty_line(text)?;
+    sheet.put_lines(text)
 }
 
 /// Adds the line of titles.
-fn put_titles(alloc: Global, sheet: &mut Sheet, titles: &[&str]) -> Result<(), AllocError> {
+fn put_titles(alloc: Global, sheet: &mut TextTable, titles: &[&str]) -> Result<(), AllocError> {
     let row = Row::new(alloc, true);
-    sheet.line()?;
+    sheet.begin_line()?;
     for title in titles {
-        sheet.cell(Vec::from_slice(alloc, title.as_bytes())?, true)?;
+        sheet.add_cell(Vec::from_slice(alloc, title.as_bytes())?, true)?;
     }
-    for (title, _) in counts(&row) {
-        sheet.cell(Vec::from_slice(alloc, title.as_bytes())?, false)?;
+    for (title, _) in named_counts(&row) {
+        sheet.add_cell(Vec::from_slice(alloc, title.as_bytes())?, false)?;
     }
     for (title, _) in named_times(&row.times) {
-        sheet.cell(Vec::from_slice(alloc, title.as_bytes())?, false)?;
+        sheet.add_cell(Vec::from_slice(alloc, title.as_bytes())?, false)?;
     }
-    sheet.cell(Vec::from_slice(alloc, b"octets")?, false)
+    sheet.add_cell(Vec::from_slice(alloc, b"octets")?, false)
 }
 
 /// Adds the line of all others, if there are any.
 fn put_others(
     alloc: Global,
-    sheet: &mut Sheet,
+    sheet: &mut TextTable,
     row: Option<&Row>,
     names: usize,
 ) -> Result<(), AllocError> {
     let Some(row) = row else {
         return Ok(());
     };
-    sheet.line()?;
+    sheet.begin_line()?;
     for _ in 0..names {
-        sheet.cell(Vec::from_slice(alloc, OTHERS.as_bytes())?, true)?;
+        sheet.add_cell(Vec::from_slice(alloc, OTHERS.as_bytes())?, true)?;
     }
     put_row(alloc, sheet, row)
 }
 
 /// Adds the cells of a row after its names, and its most frequent exceptions below.
-fn put_row(alloc: Global, sheet: &mut Sheet, row: &Row) -> Result<(), AllocError> {
-    for (_, count) in counts(row) {
+fn put_row(alloc: Global, sheet: &mut TextTable, row: &Row) -> Result<(), AllocError> {
+    for (_, count) in named_counts(row) {
         put_number(alloc, sheet, count)?;
     }
     for (_, time) in named_times(&row.times) {
@@ -166,22 +166,22 @@ fn put_row(alloc: Global, sheet: &mut Sheet, row: &Row) -> Result<(), AllocError
             Some(time) if !row.times.is_empty() => put_short_seconds(&mut cell, time)?,
             _ => cell.push(b'-')?,
         }
-        sheet.cell(cell, false)?;
+        sheet.add_cell(cell, false)?;
     }
     put_number(alloc, sheet, row.octets)?;
-    let ids = sorted_ids(alloc, row)?;
+    let ids = sorted_exception_ids(alloc, row)?;
     for (id, count) in ids.iter().take(NAMED) {
-        sheet.below(b"    ")?;
-        sheet.below(itoa::Buffer::new().format(*count).as_bytes())?;
-        sheet.below(b" ")?;
-        sheet.below(id)?;
-        sheet.below(b"\n")?;
+        sheet.add_below(b"    ")?;
+        sheet.add_below(itoa::Buffer::new().format(*count).as_bytes())?;
+        sheet.add_below(b" ")?;
+        sheet.add_below(id)?;
+        sheet.add_below(b"\n")?;
     }
     Ok(())
 }
 
 /// Adds a cell with a number.
-fn put_number(alloc: Global, sheet: &mut Sheet, number: u64) -> Result<(), AllocError> {
+fn put_number(alloc: Global, sheet: &mut TextTable, number: u64) -> Result<(), AllocError> {
     let cell = Vec::from_slice(alloc, itoa::Buffer::new().format(number).as_bytes())?;
-    sheet.cell(cell, false)
+    sheet.add_cell(cell, false)
 }

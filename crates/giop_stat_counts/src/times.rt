@@ -2,7 +2,7 @@
 
 ghost use Rattle.std.specs.Prelude.{◌≡◌, ◌+◌, ◌*◌, ◌/◌, ◌≤◌};
 
-use crate::buckets::{ABOVE, BELOW, BUCKETS, bucket, bucket_at, middle};
+use crate::buckets::{ABOVE, BELOW, BUCKETS, bucket_of, bucket_of_rank, middle_of_bucket};
 use std::alloc::{AllocError, Global};
 
 /// Times that were counted.
@@ -52,7 +52,7 @@ impl Times {
     /// Counts a time.
     pub(crate) fn add(&mut self, time: i128) -> Result<(), AllocError> {
         if self.has_buckets {
-            self.add_to_bucket(bucket(time))?;
+            self.add_to_bucket(bucket_of(time))?;
         }
         let (least, most) = if self.count == 0 {
             (time, time)
@@ -77,7 +77,7 @@ impl Times {
     }
 
     /// Adds all times of a row without buckets.
-    pub(crate) fn join(&mut self, others: &Times) {
+    pub(crate) fn add_all(&mut self, others: &Times) {
         if others.count == 0 {
             return;
         }
@@ -94,29 +94,29 @@ impl Times {
 
     /// The time that this percentage of the times don't exceed: the middle of its bucket, or the least or the greatest time
     /// if it is that one. None without buckets.
-    pub(crate) fn at(&self, percent: u64) -> Option<i128>
+    pub(crate) fn percentile(&self, percent: u64) -> Option<i128>
         requires { percent ≤ 100 }
     {
         if !self.has_buckets {
             return None;
         }
-        let due = rank(self.count, percent);
+        let due = percentile_rank(self.count, percent);
         if due <= 1 {
             return Some(self.least);
         }
         if due >= self.count {
             return Some(self.most);
         }
-        Some(match bucket_at(&self.buckets, due) {
+        Some(match bucket_of_rank(&self.buckets, due) {
             BELOW => self.least,
             found if found >= ABOVE => self.most,
-            found => within(i128::from(middle(found)), self.least, self.most),
+            found => clamped(i128::from(middle_of_bucket(found)), self.least, self.most),
         })
     }
 }
 
 /// How many a percentage of a count is, rounded up.
-fn rank(count: u64, percent: u64) -> u64
+fn percentile_rank(count: u64, percent: u64) -> u64
     requires { percent ≤ 100 }
     ensures { result ≡ (count * percent + 99) / 100 }
 {
@@ -124,6 +124,6 @@ fn rank(count: u64, percent: u64) -> u64
 }
 
 /// A number, or the nearer end of a range if the number is outside.
-fn within(number: i128, least: i128, most: i128) -> i128 {
+fn clamped(number: i128, least: i128, most: i128) -> i128 {
     number.max(least).min(most)
 }

@@ -1,7 +1,7 @@
 //! The messages that are counted, by their times.
 
 ghost use Rattle.std.specs.Prelude.{◌≡◌};
-ghost use Rattle.giop_stat_counts.specs.Windows.{has_day, compared, comes_before, is_from, is_up_to};
+ghost use Rattle.giop_stat_counts.specs.Windows.{has_day, comparable_part, comes_before, is_at_or_after, is_up_to};
 
 /// Whether a word is a time: with its day, as `2026-11-23T08:13:25.58`, or without a day, as `08:13:25` or `08`. A `Z` may
 /// follow.
@@ -12,7 +12,7 @@ pub fn is_time(word: &str) -> bool {
         time => time,
     };
     if word.len() > 10 && has_day(word) {
-        return fits(&word[..11], b"0000-00-00T") && is_time_of_day(&word[11..]);
+        return fits_form(&word[..11], b"0000-00-00T") && is_time_of_day(&word[11..]);
     }
     is_time_of_day(word)
 }
@@ -20,16 +20,17 @@ pub fn is_time(word: &str) -> bool {
 /// Whether a text is hours, which may be followed by minutes, seconds, and one to nine digits of a second.
 fn is_time_of_day(text: &[u8]) -> bool {
     match text.len() {
-        2 => fits(text, b"00"),
-        5 => fits(text, b"00:00"),
-        8 => fits(text, b"00:00:00"),
-        10..=18 => fits(&text[..9], b"00:00:00.") && text[9..].iter().all(|b| b.is_ascii_digit()),
+        2 => fits_form(text, b"00"),
+        5 => fits_form(text, b"00:00"),
+        8 => fits_form(text, b"00:00:00"),
+        10..=18 => fits_form(&text[..9], b"00:00:00.")
+            && text[9..].iter().all(|b| b.is_ascii_digit()),
         _ => false,
     }
 }
 
 /// Whether a text has this form. A `0` in the form stands for any digit.
-fn fits(text: &[u8], form: &[u8]) -> bool {
+fn fits_form(text: &[u8], form: &[u8]) -> bool {
     text.len() == form.len()
         && text.iter().zip(form).all(|(b, like)| {
             if *like == b'0' {
@@ -52,10 +53,10 @@ pub struct Window<'a> {
 impl Window<'_> {
     /// Whether a message of this time is counted. The time of a message is empty if it isn't known; then the message is
     /// counted only if neither time is given.
-    pub(crate) fn has(&self, time: &[u8]) -> bool {
+    pub(crate) fn contains_time(&self, time: &[u8]) -> bool {
         let is_late_enough = match self.first {
             None => true,
-            Some(first) => is_from(time, without_zone(first.as_bytes())),
+            Some(first) => is_at_or_after(time, without_zone(first.as_bytes())),
         };
         let is_early_enough = match self.last {
             None => true,
@@ -81,8 +82,8 @@ fn has_day(time: &[u8]) -> bool
 }
 
 /// The part of a time that is compared with another time: without its day if the other one has no day.
-fn compared<'a>(time: &'a [u8], other: &[u8]) -> &'a [u8]
-    ensures { result.now ≡ compared time.now other.now }
+fn comparable_part<'a>(time: &'a [u8], other: &[u8]) -> &'a [u8]
+    ensures { result.now ≡ comparable_part time.now other.now }
 {
     if has_day(other) {
         return time;
@@ -91,10 +92,10 @@ fn compared<'a>(time: &'a [u8], other: &[u8]) -> &'a [u8]
 }
 
 /// Whether a text comes before another, octet by octet.
-fn comes_before(a: &[u8], b: &[u8]) -> bool
-    ensures { result ≡ comes_before a.now b.now }
+fn comes_before(text: &[u8], other: &[u8]) -> bool
+    ensures { result ≡ comes_before text.now other.now }
 {
-    match (a.split_first(), b.split_first()) {
+    match (text.split_first(), other.split_first()) {
         (_, None) => false,
         (None, Some(_)) => true,
         (Some((x, xs)), Some((y, ys))) => { if x == y { comes_before(xs, ys) } else { x < y } }
@@ -102,16 +103,16 @@ fn comes_before(a: &[u8], b: &[u8]) -> bool
 }
 
 /// Whether a time is known and not before another.
-fn is_from(time: &[u8], first: &[u8]) -> bool
-    ensures { result ≡ is_from time.now first.now }
+fn is_at_or_after(time: &[u8], first: &[u8]) -> bool
+    ensures { result ≡ is_at_or_after time.now first.now }
 {
-    !time.is_empty() && !comes_before(compared(time, first), first)
+    !time.is_empty() && !comes_before(comparable_part(time, first), first)
 }
 
 /// Whether a time is known and not after another, or begins with it.
 fn is_up_to(time: &[u8], last: &[u8]) -> bool
     ensures { result ≡ is_up_to time.now last.now }
 {
-    let start = compared(time, last);
+    let start = comparable_part(time, last);
     !time.is_empty() && !comes_before(last, &start[..start.len().min(last.len())])
 }

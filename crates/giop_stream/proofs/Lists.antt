@@ -4,7 +4,7 @@ use Rattle.std.proofs.lemmas.List.{append-nil, map_push}
 use Rattle.std.specs.List.{filter, list_any, AllByRecursion as Each}
 use Rattle.std.specs.Prelude.{◌||◌}
 use Rattle.giop_checkpoint.specs.declared.fault.StreamFault.{StreamFault}
-use Rattle.giop_stream.specs.HeaderOctets.{fronts, wrong, wrong_or, first_wrong, first_wrong_octet}
+use Rattle.giop_stream.specs.HeaderOctets.{fronts, last_octet_fault, wrong_or, first_front_fault, first_wrong_octet}
 
 -- Induction that adds at the end.
 grown : {A : Type 0} (P : List A → Type 0) → ((xs : List A) (x : A) → P xs → P (xs ++ x ∷ [])) →
@@ -31,8 +31,8 @@ fronts_push {A} (y ∷ ys) x =
     (map_push (λ front. y ∷ front) (fronts ys) (ys ++ x ∷ []))
 
 -- the fault of the last octet of a header's front
-unfoldable pub wrong_last : List ℕ → Option (ℕ × StreamFault)
-wrong_last front = wrong_or (wrong front) (length front) None
+unfoldable pub wrong_last : (front : List ℕ) → Option (ℕ × StreamFault)
+wrong_last front = wrong_or (last_octet_fault front) (length front) None
 
 some_goes : (w : Option StreamFault) (n : ℕ) (a b : Option (ℕ × StreamFault))
     (found : ℕ × StreamFault)
@@ -41,23 +41,23 @@ some_goes (Some fault) n a b found f e = e
 some_goes None n a b found f e = f e
 
 first_some : (fs : List (List ℕ)) (f : List ℕ) (found : ℕ × StreamFault) →
-    first_wrong fs ≡ Some found → first_wrong (fs ++ f ∷ []) ≡ Some found
-unfolding first_wrong
+    first_front_fault fs ≡ Some found → first_front_fault (fs ++ f ∷ []) ≡ Some found
+unfolding first_front_fault
 first_some [] f found e = absurd cc
-first_some (g ∷ fs) f found e = some_goes (wrong g) (length g) (first_wrong fs)
-    (first_wrong (fs ++ f ∷ [])) found (first_some fs f found) e
+first_some (g ∷ fs) f found e = some_goes (last_octet_fault g) (length g) (first_front_fault fs)
+    (first_front_fault (fs ++ f ∷ [])) found (first_some fs f found) e
 
 none_goes : (w : Option StreamFault) (n : ℕ) (a b c : Option (ℕ × StreamFault)) →
     (a ≡ None → b ≡ c) → wrong_or w n a ≡ None → wrong_or w n b ≡ c
 none_goes (Some fault) n a b c f e = absurd cc
 none_goes None n a b c f e = f e
 
-first_none : (fs : List (List ℕ)) (f : List ℕ) → first_wrong fs ≡ None →
-    first_wrong (fs ++ f ∷ []) ≡ wrong_last f
-unfolding first_wrong wrong_last
+first_none : (fs : List (List ℕ)) (f : List ℕ) → first_front_fault fs ≡ None →
+    first_front_fault (fs ++ f ∷ []) ≡ wrong_last f
+unfolding first_front_fault wrong_last
 first_none [] f e = refl
-first_none (g ∷ fs) f e = none_goes (wrong g) (length g) (first_wrong fs)
-    (first_wrong (fs ++ f ∷ [])) (wrong_last f) (first_none fs f) e
+first_none (g ∷ fs) f e = none_goes (last_octet_fault g) (length g) (first_front_fault fs)
+    (first_front_fault (fs ++ f ∷ [])) (wrong_last f) (first_none fs f) e
 
 pub offence_stays : (xs : List ℕ) (x : ℕ) (found : ℕ × StreamFault) →
     first_wrong_octet xs ≡ Some found → first_wrong_octet (xs ++ x ∷ []) ≡ Some found

@@ -12,6 +12,7 @@ pub mod LineOrder
 pub mod OneOfEach
 pub mod IdBeforeEnd
 pub mod Ended
+pub mod OldFragments
 pub mod FinishByFields
 pub mod ReadOn
 pub mod MoreOctets

@@ -23,10 +23,10 @@ use Rattle.giop_checkpoint.specs.declared.fixed.NextOctet.{NextOctet}
 use Rattle.giop_checkpoint.specs.declared.fixed.NextOctet.TheVariants.{Header, Payload, Stopped}
 use Rattle.giop_checkpoint.specs.declared.record.RecordKind.{RecordKind}
 use Rattle.giop_checkpoint.specs.declared.record.RecordKind.TheVariants as record_kinds
-use Rattle.giop_checkpoint.specs.Layouts.{OpenHasRange, layout_of, reads}
+use Rattle.giop_checkpoint.specs.Layouts.{OpenHasRange, layout_of, reads_layout}
 use Rattle.giop_checkpoint.specs.Fixed.{fixed_octets}
-use Rattle.giop_checkpoint.specs.Records.{Entry, EntryHasRange, entry_octets}
-use Rattle.giop_checkpoint.specs.Refusals.{HasState, HasRecords, IsOurs, IsNotOurs, IsOutOfRange, Refused}
+use Rattle.giop_checkpoint.specs.Records.{StoredRecord, StoredRecordHasRange, stored_record_octets}
+use Rattle.giop_checkpoint.specs.Refusals.{HasState, HasRecords, PassesUpToCounts, FailsUpToCounts, FailsAfterCounts, IsFirstFailure}
 use Rattle.giop_message.specs.Stored.{Stored}
 use Rattle.giop_stream.specs.SlotsRepresent.{OpenEntry, index_of, current_of}
 use Rattle.giop_stream.specs.declared.fault.Stop.{Stop}
@@ -40,7 +40,7 @@ use Rattle.giop_stream.specs.ViewOfState.{Shows}
 
 -- the version of the signature file that an engine reads by, and the numbers of types, operations,
 -- exceptions and requests
-unfoldable pub counts_of : Table → RequestTable → Counts
+unfoldable pub counts_of : (C : Table) (request_table : RequestTable) → Counts
 counts_of C l = record {
   version = C.version;
   types = C.declared;
@@ -52,7 +52,7 @@ counts_of C l = record {
 
 -- the place of the next octet: after a stream fault; in a header, if fewer than 12 octets are held;
 -- or in a payload
-abbrev pub place_of : Option StreamFault → List ℕ → ℕ → NextOctet
+abbrev pub place_of : (fault : Option StreamFault) (header : List ℕ) (payload_count : ℕ) → NextOctet
 place_of (Some fault) header payload_count = Stopped fault
 place_of None header payload_count =
     if nat_lt (length header) 12 then Header (record { items = header }) else Payload header
@@ -60,26 +60,26 @@ place_of None header payload_count =
 
 -- the index of the record of the message that the payload belongs to: an open message at this
 -- index, or the current one, whose record comes after those of the open ones
-abbrev pub owner_of : Option ℕ → Option Message → ℕ → Option ℕ
-owner_of (Some k) message many = if nat_lt k many then Some k else None
-owner_of None None many = None
-owner_of None (Some m) many = Some many
+abbrev pub owner_record_index : (index : Option ℕ) (message : Option Message) (many : ℕ) → Option ℕ
+owner_record_index (Some index) message many = if nat_lt index many then Some index else None
+owner_record_index None None many = None
+owner_record_index None (Some m) many = Some many
 
 -- how many records the current message has: one, if there is such a message
-abbrev pub count_own : Option Message → ℕ
-count_own None = 0
-count_own (Some m) = 1
+abbrev pub count_current : (message : Option Message) → ℕ
+count_current None = 0
+count_current (Some m) = 1
 
-unfoldable pub fixed_of : Table → RequestTable → FramingView → Fixed
+unfoldable pub fixed_of : (C : Table) (request_table : RequestTable) (fields : FramingView) → Fixed
 fixed_of C l m = record {
   counts = counts_of C l;
   most_open = m.slots.slots.most;
-  records = length m.slots.slots.entries + count_own (current_of m.slots.owner);
+  records = length m.slots.slots.entries + count_current (current_of m.slots.owner);
   octets = m.totals.octets;
   messages = m.totals.messages;
   faults = m.totals.faults;
   place = place_of m.stopped m.header m.payload_count;
-  owner = owner_of (index_of m.slots.owner) (current_of m.slots.owner)
+  owner = owner_record_index (index_of m.slots.owner) (current_of m.slots.owner)
       (length m.slots.slots.entries);
   is_mixed = m.slots.is_mixed && joins_by C;
 }
@@ -87,77 +87,79 @@ fixed_of C l m = record {
 -- ---- the records
 
 -- of an open message with this key, and of one that is over
-abbrev pub open_kind : Option ℕ → RecordKind
+abbrev pub open_kind : (id : Option ℕ) → RecordKind
 open_kind None = record_kinds.OpenWithoutId
 open_kind (Some id) = record_kinds.Open id
 
-abbrev pub over_kind : Option ℕ → RecordKind
+abbrev pub over_kind : (id : Option ℕ) → RecordKind
 over_kind None = record_kinds.OverWithoutId
 over_kind (Some id) = record_kinds.Over id
 
 -- the kind of an open message's record, by whether the message is over, and its request id
-abbrev pub standing_of : Option Message → Option ℕ → RecordKind
-standing_of None key = over_kind key
-standing_of (Some m) key = open_kind key
+abbrev pub open_record_kind : (message : Option Message) (key : Option ℕ) → RecordKind
+open_record_kind None key = over_kind key
+open_record_kind (Some m) key = open_kind key
 
 -- the entry stores a message that isn't over; if the message fits the types of a catalogue, it has
 -- at most as many frames as the catalogue's depth
-pub record IsHeld (m : Message) (e : Entry) : Type 0 where
+pub record StoresMessage (m : Message) (e : StoredRecord) : Type 0 where
   pub stored : Stored m e.message e.frames
   pub shallow : (C : Table) → IsTable C → Fits C m → e.record_is.frames ≤ catalogue_depth C
 
 -- what an entry stores of a message; zeros if the message is over
-abbrev pub IsStored : Option Message → Entry → Type 0
-IsStored None e = (e.message ≡ replicate MESSAGE_SIZE 0) × (e.frames ≡ [])
-IsStored (Some m) e = IsHeld m e
+abbrev pub StoresOrZeros : Option Message → StoredRecord → Type 0
+StoresOrZeros None e = (e.message ≡ replicate MESSAGE_SIZE 0) × (e.frames ≡ [])
+StoresOrZeros (Some m) e = StoresMessage m e
 
 -- the record of an open message
-pub record IsOpen (slot : OpenEntry) (e : Entry) : Type 0 where
-  pub range : EntryHasRange e
-  pub record_kind : e.record_is.record_kind ≡ standing_of slot.value.message slot.key
-  pub number : e.record_is.number ≡ slot.value.number
-  pub header : e.record_is.header ≡ slot.value.header
-  pub message : IsStored slot.value.message e
+pub record IsOpen (slot : OpenEntry) (stored : StoredRecord) : Type 0 where
+  pub range : StoredRecordHasRange stored
+  pub record_kind : stored.record_is.record_kind ≡ open_record_kind slot.value.message slot.key
+  pub number : stored.record_is.number ≡ slot.value.number
+  pub header : stored.record_is.header ≡ slot.value.header
+  pub message : StoresOrZeros slot.value.message stored
 
 -- the record of a message that isn't over
 pub record IsMessageRecord (record_kind : RecordKind) (number : ℕ) (header : List ℕ) (m : Message)
-    (e : Entry) : Type 0 where
-  pub range : EntryHasRange e
-  pub standing_is : e.record_is.record_kind ≡ record_kind
-  pub number_is : e.record_is.number ≡ number
-  pub header_is : e.record_is.header ≡ header
-  pub message : IsHeld m e
+    (stored : StoredRecord) : Type 0 where
+  pub range : StoredRecordHasRange stored
+  pub standing_is : stored.record_is.record_kind ≡ record_kind
+  pub number_is : stored.record_is.number ≡ number
+  pub header_is : stored.record_is.header ≡ header
+  pub message : StoresMessage m stored
 
 -- the record of the current message, if it isn't open
-abbrev pub IsCurrent : Message → Entry → Type 0
+abbrev pub IsCurrent : Message → StoredRecord → Type 0
 IsCurrent m e = IsMessageRecord record_kinds.Current m.number m.header m e
 
 -- the entries that are left: only that of the current message, or none if there is no such message
-abbrev pub IsLast : Option Message → List Entry → Type 0
-IsLast None [] = Unit {0}
-IsLast None (e ∷ es) = ⊥
-IsLast (Some m) [] = ⊥
-IsLast (Some m) (e ∷ es) = IsCurrent m e × (es ≡ [])
+abbrev pub AreLastEntries : (message : Option Message) (entries : List StoredRecord) → Type 0
+AreLastEntries None [] = Unit {0}
+AreLastEntries None (e ∷ es) = ⊥
+AreLastEntries (Some m) [] = ⊥
+AreLastEntries (Some m) (e ∷ es) = IsCurrent m e × (es ≡ [])
 
 -- the entries are those of the open messages in their order, and then the entry of the current one
-abbrev pub AreEntries : List OpenEntry → Option Message → List Entry → Type 0
-AreEntries [] own es = IsLast own es
-AreEntries (slot ∷ slots) own [] = ⊥
-AreEntries (slot ∷ slots) own (e ∷ es) = IsOpen slot e × AreEntries slots own es
+abbrev pub AreEntries : (slots : List OpenEntry) (current : Option Message)
+    (entries : List StoredRecord) →
+    Type 0
+AreEntries [] current entries = AreLastEntries current entries
+AreEntries (slot ∷ slots) current [] = ⊥
+AreEntries (slot ∷ slots) current (e ∷ entries) = IsOpen slot e × AreEntries slots current entries
 
 -- ---- what a call writes after these octets: an entry that has this property, or several entries
 
-pub record IsPutOne (before after : List ℕ) (Is : Entry → Type 0) : Type 0 where
-  pub entry : Entry
+pub record IsPutOne (before after : List ℕ) (Is : StoredRecord → Type 0) : Type 0 where
+  pub entry : StoredRecord
   pub is : Is entry
-  pub put : after ≡ before ++ entry_octets entry
+  pub put : after ≡ before ++ stored_record_octets entry
 
-pub record IsPut (before after : List ℕ) (Are : List Entry → Type 0) : Type 0 where
-  pub entries : List Entry
+pub record IsPut (before after : List ℕ) (Are : List StoredRecord → Type 0) : Type 0 where
+  pub entries : List StoredRecord
   pub are : Are entries
-  pub put : after ≡ before ++ flat_map entry_octets entries
+  pub put : after ≡ before ++ flat_map stored_record_octets entries
 
-abbrev pub AreOpen : List OpenEntry → List Entry → Type 0
+abbrev pub AreOpen : (slots : List OpenEntry) (entries : List StoredRecord) → Type 0
 AreOpen slots entries = AreEntries slots None entries
 
 -- ---- what a call puts: all of these octets, and its result is how many they are; or, if a put
@@ -177,17 +179,19 @@ pub record PutsSuch (result : Result ℕ OutFault) (before after : OutLog)
 
 -- ---- a checkpoint
 
-unfoldable pub checkpoint_octets : Layout → Table → RequestTable → FramingView → List Entry → List ℕ
+unfoldable pub checkpoint_octets : (layout : Layout) (C : Table) (request_table : RequestTable)
+    (fields : FramingView) (entries : List StoredRecord) → List ℕ
 checkpoint_octets layout C l m entries =
-    fixed_octets layout (fixed_of C l m) ++ flat_map entry_octets entries
+    fixed_octets layout (fixed_of C l m) ++ flat_map stored_record_octets entries
 
 -- the octets are the checkpoint of an engine with these fields, in this layout
-pub record IsPutWhole (layout : Layout) (C : Table) (l : RequestTable) (m : FramingView)
+pub record IsPutWhole (layout : Layout) (C : Table) (request_table : RequestTable)
+    (fields : FramingView)
     (octets : List ℕ)
     : Type 0 where
-  pub entries : List Entry
-  pub are : AreEntries m.slots.slots.entries (current_of m.slots.owner) entries
-  pub put : octets ≡ checkpoint_octets layout C l m entries
+  pub entries : List StoredRecord
+  pub are : AreEntries fields.slots.slots.entries (current_of fields.slots.owner) entries
+  pub put : octets ≡ checkpoint_octets layout C request_table fields entries
 
 -- These octets are the checkpoint of an engine that holds the stream p, by this table and this
 -- list, and that allows this number of open messages. In layout 2 that number is 16; the other
@@ -195,9 +199,9 @@ pub record IsPutWhole (layout : Layout) (C : Table) (l : RequestTable) (m : Fram
 pub record Spells (octets : List ℕ) (C : Table) (l : RequestTable) (most : ℕ) (p : List ℕ) : Type 0
   where
     pub layout : Layout
-    pub is_read : reads C.version layout ≡ true
+    pub is_read : reads_layout C.version layout ≡ true
     pub memory : FramingView
-    pub entries : List Entry
+    pub entries : List StoredRecord
     pub octets_are : octets ≡ checkpoint_octets layout C l memory entries
     pub allows : OpenHasRange layout most
     pub limit : memory.slots.slots.most ≡ most
@@ -208,11 +212,11 @@ pub record Spells (octets : List ℕ) (C : Table) (l : RequestTable) (most : ℕ
 
 -- the size of the greatest checkpoint, for this number of open messages and a catalogue of this
 -- depth
-unfoldable pub checkpoint_limit : ℕ → ℕ → ℕ
+unfoldable pub checkpoint_limit : (most depth : ℕ) → ℕ
 checkpoint_limit most depth = FIXED_SIZE + (most + 1) * (RECORD_SIZE + FRAME_SIZE * depth)
 
 -- how many octets records have, with their frames
-abbrev pub entries_size : List Entry → ℕ
+abbrev pub entries_size : (entries : List StoredRecord) → ℕ
 entries_size [] = 0
 entries_size (e ∷ es) = (RECORD_SIZE + FRAME_SIZE * e.record_is.frames) + entries_size es
 
@@ -220,9 +224,9 @@ entries_size (e ∷ es) = (RECORD_SIZE + FRAME_SIZE * e.record_is.frames) + entr
 -- fixed part and each record with its frames, and the result is its length. If a put failed, a
 -- front of it was written.
 pub record Saves (result : Result ℕ Stop) (before after : OutLog)
-    (C : Table) (l : RequestTable) (most : ℕ) (p : List ℕ) : Type 0 where
+    (C : Table) (l : RequestTable) (most : ℕ) (stream : List ℕ) : Type 0 where
   pub octets : List ℕ
-  pub spells : Spells octets C l most p
+  pub spells : Spells octets C l most stream
   pub layout : spells.layout ≡ layout_of C.version
   pub written : StopWrites result before after octets
   pub count : IfOk result (λ n. n ≡ length octets)
@@ -233,24 +237,25 @@ pub record Saves (result : Result ℕ Stop) (before after : OutLog)
 
 -- The octets pass the checks up to the check of the records' lengths. After that, only a field of a
 -- record may be wrong, or the totals may be such that no stream has them.
-abbrev pub PassesLengths : Counts → List ℕ → Type 0
-PassesLengths c s = (f : Fixed) × HasState c f s × HasRecords f s
+abbrev pub PassesLengths : (counts : Counts) (octets : List ℕ) → Type 0
+PassesLengths c octets = (f : Fixed) × HasState c f octets × HasRecords f octets
 
 -- the fields in these octets allow this number of open messages
-abbrev pub Allows : Counts → List ℕ → ℕ → Type 0
-Allows c s n = (f : Fixed) × HasState c f s × (f.most_open ≡ n)
+abbrev pub Allows : (counts : Counts) (octets : List ℕ) (count : ℕ) → Type 0
+Allows c octets count = (f : Fixed) × HasState c f octets × (f.most_open ≡ count)
 
 -- the first check that fails; or, after the check of the lengths, that there is no memory for the
 -- open messages
-abbrev pub IsRefused : Counts → List ℕ → LoadFault → Type 0
-IsRefused c s refusals.Magic = IsNotOurs c s refusals.Magic
-IsRefused c s refusals.Version = IsNotOurs c s refusals.Version
-IsRefused c s refusals.Catalogue = IsNotOurs c s refusals.Catalogue
-IsRefused c s refusals.Length = Refused c s refusals.Length
-IsRefused c s refusals.OutOfMemory = IsOurs c s × PassesLengths c s
-IsRefused c s refusals.State = IsOurs c s × (IsOutOfRange c s refusals.State ⊎ PassesLengths c s)
+abbrev pub IsRefused : (counts : Counts) (octets : List ℕ) (fault : LoadFault) → Type 0
+IsRefused c octets refusals.Magic = FailsUpToCounts c octets refusals.Magic
+IsRefused c octets refusals.Version = FailsUpToCounts c octets refusals.Version
+IsRefused c octets refusals.Catalogue = FailsUpToCounts c octets refusals.Catalogue
+IsRefused c octets refusals.Length = IsFirstFailure c octets refusals.Length
+IsRefused c octets refusals.OutOfMemory = PassesUpToCounts c octets × PassesLengths c octets
+IsRefused c octets refusals.State =
+    PassesUpToCounts c octets × (FailsAfterCounts c octets refusals.State ⊎ PassesLengths c octets)
 
 -- what was loaded has this property, unless there wasn't enough memory
-abbrev pub OrNoMemory : {A : Type 0} → Result A LoadFault → (A → Type 0) → Type 0
-OrNoMemory (Ok x) Is = Is x
-OrNoMemory (Err why) Is = why ≡ refusals.OutOfMemory
+abbrev pub OrNoMemory : {A : Type 0} (result : Result A LoadFault) (Holds : A → Type 0) → Type 0
+OrNoMemory (Ok x) Holds = Holds x
+OrNoMemory (Err why) Holds = why ≡ refusals.OutOfMemory

@@ -5,14 +5,14 @@ use Rattle.std.specs.List.{position_from}
 use Rattle.giop_cdr.specs.Numbers.{num}
 use Rattle.giop_entry_table.specs.OptionalIds.{is_id}
 use Rattle.giop_sig.specs.Table.{Table}
-use Rattle.giop_message.specs.Headers.{order, size, is_fragment}
+use Rattle.giop_message.specs.Headers.{order, size, is_fragment_1_2}
 use Rattle.giop_message.specs.Signatures.{Answers}
 use Rattle.giop_stream.specs.declared.slots.Slots.{Slots}
 use Rattle.giop_stream.specs.declared.current.Current.{Current}
 use Rattle.giop_stream.specs.declared.fragment.Continuation.{Continuation}
 use Rattle.giop_stream.specs.Framing.{CutMessage, with_payload}
-use Rattle.giop_stream.specs.Events.{MessageKey, Rising, id}
-use Rattle.giop_stream.specs.Effects.{Effect, line_effect, starts, with_octet}
+use Rattle.giop_stream.specs.Events.{MessageKey, NumbersRise, id}
+use Rattle.giop_stream.specs.Effects.{Effect, line_effect, start_line_of, with_octet}
 use Rattle.giop_stream.specs.Lines.{Kept}
 use Rattle.giop_stream.specs.OpenSlots.{Tracked}
 use Rattle.giop_stream.specs.SlotsRepresent.{SlotsRepresent}
@@ -25,39 +25,42 @@ pub record IsOpenAt (s : Slots) (found : Continuation) : Type 0 where
 
 -- These five octets, after the first eleven of a header, are the header's last one and the request
 -- id of a Fragment that continues this open message.
-pub record IsContinuation (front octets : List ℕ) (s : Slots) (found : Continuation) : Type 0 where
+pub record IsContinuation (front octets : List ℕ) (slots : Slots)
+    (found : Continuation) : Type 0 where
   pub last : ℕ
   pub id : List ℕ
   pub parts : octets ≡ last ∷ id
   pub eleven : length front ≡ 11
   pub four : length id ≡ 4
-  pub fragment : is_fragment (front ++ last ∷ []) ≡ true
+  pub fragment : is_fragment_1_2 (front ++ last ∷ []) ≡ true
   pub sized : 4 ≤ size (front ++ last ∷ [])
   pub spells : found.id ≡ num (order (front ++ last ∷ [])) id
-  pub open_at : IsOpenAt s found
+  pub open_at : IsOpenAt slots found
 
 -- The slots represent what is tracked when the request id of a Fragment is complete, and it makes
 -- no difference which message owns the octets until then.
 pub record IsContinuing (C : Table) (l : Answers) (s : Slots) (c : Tracked)
-    (owner : Option MessageKey) (m : CutMessage) (now : Current) : Type 0 where
+    (owner : Option MessageKey) (message : CutMessage) (now : Current) : Type 0 where
   pub keeps : SlotsRepresent C l s c owner
-  pub rising : Rising c.still_open
-  pub current : IsCurrent now m
-  pub alive : (kept : Kept) × (c.known m.number ≡ Some kept)
+  pub rising : NumbersRise c.still_open
+  pub current : IsCurrent now message
+  pub alive : (kept : Kept) × (c.known message.number ≡ Some kept)
 
 -- The slots represent what is tracked before the last octet x of a Fragment's request id, without
 -- the Fragment itself.
 pub record IsBeforeContinuation (C : Table) (l : Answers) (s : Slots) (c : Tracked) (m : CutMessage)
-    (now : Current) (x : ℕ) (found : Continuation) : Type 0 where
+    (now : Current) (octet : ℕ) (found : Continuation) : Type 0 where
   pub keeps : SlotsRepresent C l s c None
-  pub before : IsBeforeOctet c m now x
+  pub before : IsBeforeOctet c m now octet
   pub three : length m.payload ≡ 3
-  pub fragment : is_fragment m.header ≡ true
-  pub spells : id (with_octet m x) ≡ found.id
+  pub fragment : is_fragment_1_2 m.header ≡ true
+  pub spells : id (with_octet m octet) ≡ found.id
   pub open_at : IsOpenAt s found
 
 -- what the last octet of a Fragment's header and the octets of its request id do: the message
 -- starts, and the last octet does what its events do
-abbrev pub continuation_effect : Table → Answers → ℕ → Tracked → CutMessage → ℕ → Effect
-continuation_effect C l most c m x =
-    line_effect (starts (with_payload m [])) (octet_effect C l most c (with_octet m x))
+abbrev pub continuation_effect : (C : Table) (answers : Answers) (most : ℕ) (tracked : Tracked)
+    (message : CutMessage)
+    (octet : ℕ) → Effect
+continuation_effect C l most c m octet =
+    line_effect (start_line_of (with_payload m [])) (octet_effect C l most c (with_octet m octet))

@@ -10,7 +10,7 @@ use Rattle.giop_stream.specs.Events.{MessageKey}
 use Rattle.giop_stream.specs.Lines.{StreamLine}
 use Rattle.giop_stream.specs.Text.{lines_text}
 use Rattle.giop_stream.specs.Stream.{fault_count}
-use Rattle.giop_stream.specs.Effects.{Effect, Part}
+use Rattle.giop_stream.specs.Effects.{Effect, MessageEffect}
 use Rattle.giop_stream.specs.SlotsRepresent.{RepresentsMessage, SlotsRepresent}
 
 -- The call writes these lines, and its result counts the faults among them. If it doesn't fail,
@@ -22,33 +22,38 @@ pub record WritesAndLeaves {A E : Type 0} (count : A → ℕ) (result : Result A
   pub kept : OnOk result leaves
 
 -- how many faults the result of a call counts, if it tells whether there is a fault
-abbrev pub one_if : Bool → ℕ
-one_if fault = if fault then 1 else 0
+abbrev pub count_one_if : (fault : Bool) → ℕ
+count_one_if fault = if fault then 1 else 0
 
 -- the same if it tells how many there are
-abbrev pub all : ℕ → ℕ
-all faults = faults
+abbrev pub count_all : (faults : ℕ) → ℕ
+count_all faults = faults
 
 -- the same if it finds none
-abbrev pub never : {A : Type 0} → A → ℕ
-never x = 0
+abbrev pub count_none : {A : Type 0} (value : A) → ℕ
+count_none value = 0
 
 -- The slots represent what the effect leaves tracked, and the next octets of the payload belong to
 -- this message.
-abbrev pub DoesEffect : {A E : Type 0} → Table → Answers → (A → ℕ) → Result A E → OutLog → OutLog →
-    Slots → Effect → Option MessageKey → Type 0
+abbrev pub DoesEffect : {A E : Type 0} (C : Table) (answers : Answers) (count : A → ℕ)
+    (result : Result A E) (before after : OutLog) (slots : Slots) (effect : Effect)
+    (owner_of_next : Option MessageKey) → Type 0
 DoesEffect C l count result before after slots effect owner_of_next =
     WritesAndLeaves count result before after effect.lines
     (SlotsRepresent C l slots effect.tracked owner_of_next)
 
 -- The code's message with this number and header represents what this part of an effect leaves.
-abbrev pub DoesPart : {A E : Type 0} → Table → Answers → (A → ℕ) → Result A E → OutLog → OutLog →
-    Option CodeMessage → MessageKey → Part → Type 0
-DoesPart C l count result before after message w part =
+abbrev pub DoesMessageEffect : {A E : Type 0} (C : Table) (answers : Answers) (count : A →
+    ℕ) (result : Result A E)
+    (before after : OutLog) (message : Option CodeMessage) (key : MessageKey)
+    (part : MessageEffect) →
+    Type 0
+DoesMessageEffect C l count result before after message w part =
     WritesAndLeaves count result before after part.lines
     (RepresentsMessage C l message w part.kept)
 
 -- The call writes only lines: nothing is kept.
-abbrev pub WritesLines : {A E : Type 0} → (A → ℕ) → Result A E → OutLog → OutLog → List StreamLine →
-    Type 0
-WritesLines count result before after ls = WritesAndLeaves count result before after ls (Unit {0})
+abbrev pub WritesLines : {A E : Type 0} (count : A → ℕ) (result : Result A E)
+    (before after : OutLog) (lines : List StreamLine) → Type 0
+WritesLines count result before after lines =
+    WritesAndLeaves count result before after lines (Unit {0})

@@ -6,21 +6,23 @@ use Rattle.giop_stream.specs.Rules.{Rules}
 use Rattle.giop_stream.specs.Framing.{cut, messages}
 use Rattle.giop_stream.specs.HeaderEndsOfStream.{header_ends_from}
 
--- A message begins in these octets, which come after the stream p: its header of 12 octets becomes
+-- A message begins in these octets, which come after the stream: its header of 12 octets becomes
 -- complete in them (GIOP Message Formats, GIOP Message Header).
-abbrev pub begins_in : List ℕ → List ℕ → Bool
-begins_in p octets = nat_lt (length (messages (cut p))) (length (messages (cut (p ++ octets))))
+abbrev pub begins_in : (stream octets : List ℕ) → Bool
+begins_in stream octets =
+    nat_lt (length (messages (cut stream))) (length (messages (cut (stream ++ octets))))
 
 -- the number of the last message that begins in these octets, from 1
-abbrev pub begun_in : List ℕ → List ℕ → Option ℕ
-begun_in p octets = if begins_in p octets then Some (length (messages (cut (p ++ octets)))) else
+abbrev pub begun_in : (stream octets : List ℕ) → Option ℕ
+begun_in stream octets =
+    if begins_in stream octets then Some (length (messages (cut (stream ++ octets)))) else
     None
 
 module _ {St : Type 0} (due : St → Bool) (notified : St → CallEvent → St) (awaits_messages : Bool)
     (C : Table) (st : St) (R : Rules) (p : List ℕ) where
   -- Whether a correspondent is due after these octets of the stream: by what it is told of them,
   -- or, if it awaits messages, because a message begins in them.
-  abbrev pub is_due_after : List ℕ → Bool
+  abbrev pub is_due_after : (octets : List ℕ) → Bool
   is_due_after octets =
       due (after_ends notified C st (header_ends_from R p octets))
       || (awaits_messages && begins_in p octets)

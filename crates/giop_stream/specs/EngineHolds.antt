@@ -17,46 +17,47 @@ use Rattle.giop_stream.specs.ViewOfState.{Shows}
 use Rattle.giop_stream.specs.EngineView.{EngineView}
 
 -- the request table is one for the operations of this table
-abbrev pub AreOf : Table → RequestTable → Type 0
-AreOf C l = messages.AreOf C l
+abbrev pub IsRequestTableOf : (C : Table) (request_table : RequestTable) → Type 0
+IsRequestTableOf C l = messages.IsRequestTableOf C l
 
 -- the rules that an engine reads by: its table, the operations that the ids of each message answer,
 -- and the number of messages that may be open
-abbrev pub rules_with : EngineView → Answers → Rules
+abbrev pub rules_with : (engine : EngineView) (answers : Answers) → Rules
 rules_with e a = rules_by e.table a e.most
 
 -- the rules that an engine reads by, if its request table gives the operations
-abbrev pub rules_of : EngineView → Rules
+abbrev pub rules_of : (engine : EngineView) → Rules
 rules_of e = rules e.table e.request_table e.most
 
 -- what these octets add to the text of a stream
-unfoldable pub added : Rules → List ℕ → List ℕ → List ℕ
-added R p more = drop (length (text R p)) (text R (p ++ more))
+unfoldable pub added : (R : Rules) (stream more : List ℕ) → List ℕ
+added R stream more = drop (length (text R stream)) (text R (stream ++ more))
 
 -- The engine holds the stream p, if the ids of each message answer these operations: its fields
 -- show the state of p.
-pub record HoldsBy (e : EngineView) (a : Answers) (p : List ℕ) : Type 0 where
-  pub sound : e.failed ≡ false
+pub record HoldsBy (engine : EngineView) (answers : Answers) (p : List ℕ) : Type 0 where
+  pub sound : engine.failed ≡ false
   pub octets : AreOctets p
-  pub shows : Shows e.table a e.stream (state_of (rules_with e a) p)
+  pub shows : Shows engine.table answers engine.stream (state_of (rules_with engine answers) p)
 
--- The engine holds the stream p, if its request table gives the operations.
-abbrev pub Holds : EngineView → List ℕ → Type 0
-Holds e p = HoldsBy e (by_list e.request_table) p
+-- The engine holds the stream, if its request table gives the operations.
+abbrev pub Holds : (engine : EngineView) (stream : List ℕ) → Type 0
+Holds e stream = HoldsBy e (by_list e.request_table) stream
 
-abbrev pub status_of : Option StreamFault → Status
+abbrev pub status_of : (fault : Option StreamFault) → Status
 status_of None = Running
 status_of (Some fault) = Stopped fault
 
 -- what was written: all that was due; or a front of it, if a put failed; or nothing, if the engine
 -- had failed before
-abbrev pub StopWrites : {A : Type 0} → Result A Stop → OutLog → OutLog → List ℕ → Type 0
+abbrev pub StopWrites : {A : Type 0} (result : Result A Stop) (before after : OutLog)
+    (due : List ℕ) → Type 0
 StopWrites (Ok x) before after due = Wrote before after due
 StopWrites (Err (stop.Out f)) before after due = WroteFront before after due
 StopWrites (Err stop.Failed) before after due = after ≡ before
 
 -- how a call leaves the engine: whether it has failed, and with which totals
-abbrev pub Leaves : {A : Type 0} → Result A Stop → EngineView → EngineView → Type 0
+abbrev pub Leaves : {A : Type 0} (result : Result A Stop) (before after : EngineView) → Type 0
 Leaves (Ok x) before after = (before.failed ≡ false) × (after.failed ≡ false)
 Leaves (Err (stop.Out f)) before after =
     (before.failed ≡ false) × (after.failed ≡ true) × (after.stream.totals ≡ before.stream.totals)

@@ -7,8 +7,8 @@ use Rattle.giop_message.specs.Headers.{size}
 use Rattle.giop_checkpoint.specs.declared.fault.StreamFault.{StreamFault}
 use Rattle.giop_stream.specs.declared.status.Totals.{Totals}
 use Rattle.giop_stream.specs.Framing.{CutMessage, cut, fault_of}
-use Rattle.giop_stream.specs.Events.{MessageKey, Before, Open, message_key, opener_of, has_named, events, before_by}
-use Rattle.giop_stream.specs.Stream.{tally}
+use Rattle.giop_stream.specs.Events.{MessageKey, OpenState, Open, message_key, opener_of, is_named_fragment, events, before_by}
+use Rattle.giop_stream.specs.Stream.{totals_so_far}
 use Rattle.giop_stream.specs.OpenSlots.{Tracked, tracked_after}
 use Rattle.giop_stream.specs.Octet.{header_of}
 
@@ -23,35 +23,36 @@ pub record State : Type 0 where
 -- ---- The owner of the next octets.
 
 -- the message that an open joined message begins with
-abbrev pub opener_key : Option Open → Option MessageKey
+abbrev pub opener_key : (other : Option Open) → Option MessageKey
 opener_key None = None
 opener_key (Some o) = Some o.opener
 
 -- The owner of the next octet, if this stands before it. After a Fragment has its place among the
 -- open messages, it is the message that the Fragment continues.
-unfoldable pub owner_of_next : Before → CutMessage → Option MessageKey
-owner_of_next b m = if has_named m then opener_key (opener_of b m) else Some (message_key m)
+unfoldable pub owner_of_next : (before : OpenState) (message : CutMessage) → Option MessageKey
+owner_of_next b m = if is_named_fragment m then opener_key (opener_of b m) else Some (message_key m)
 
-abbrev pub owner_of_next_in : Before → Option CutMessage → Option MessageKey
+abbrev pub owner_of_next_in : (before : OpenState) (current : Option CutMessage) → Option MessageKey
 owner_of_next_in b None = None
 owner_of_next_in b (Some m) = owner_of_next b m
 
 -- ---- Of a stream.
 
-abbrev pub left_of : Option CutMessage → ℕ
-left_of None = 0
-left_of (Some m) = size m.header - length m.payload
+abbrev pub payload_octets_left : (current : Option CutMessage) → ℕ
+payload_octets_left None = 0
+payload_octets_left (Some m) = size m.header - length m.payload
 
-abbrev pub unless : {A : Type 0} → Option (ℕ × StreamFault) → A → A → A
-unless (Some found) none some = none
-unless None none some = some
+abbrev pub none_if_stopped : {A : Type 0} (is_allowed : Option (ℕ × StreamFault)) (none some : A) →
+    A
+none_if_stopped (Some is_allowed) none some = none
+none_if_stopped None none some = some
 
-unfoldable pub state_of : Rules → List ℕ → State
-state_of R p = record {
-  totals = tally R p;
-  stop = fault_of (cut p).stop;
-  held = unless (cut p).stop [] (header_of (cut p).current (cut p).held);
-  left = unless (cut p).stop 0 (left_of (cut p).current);
-  tracked = tracked_after R p;
-  owner = owner_of_next_in (before_by R (events R p)) (cut p).current;
+unfoldable pub state_of : (R : Rules) (stream : List ℕ) → State
+state_of R stream = record {
+  totals = totals_so_far R stream;
+  stop = fault_of (cut stream).stop;
+  held = none_if_stopped (cut stream).stop [] (header_of (cut stream).current (cut stream).held);
+  left = none_if_stopped (cut stream).stop 0 (payload_octets_left (cut stream).current);
+  tracked = tracked_after R stream;
+  owner = owner_of_next_in (before_by R (events R stream)) (cut stream).current;
 }

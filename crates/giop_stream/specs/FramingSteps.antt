@@ -6,16 +6,16 @@ use Rattle.giop_stream.specs.Stream.{with_truncated}
 use Rattle.giop_stream.specs.EngineView.{FramingView}
 
 -- one more octet is read, and held as one of a header
-unfoldable pub held_on : FramingView → ℕ → FramingView
-held_on m x = record m {
+unfoldable pub with_header_octet : (fields : FramingView) (octet : ℕ) → FramingView
+with_header_octet m octet = record m {
   totals = record m.totals { octets = suc m.totals.octets };
   header =
-      m.header ++ x ∷ [];
+      m.header ++ octet ∷ [];
 }
 
 -- the reading ends with a fault at this place
-unfoldable pub stop : FramingView → StreamFault → ℕ → FramingView
-stop m fault place = record m {
+unfoldable pub stopped_with : (fields : FramingView) (fault : StreamFault) (place : ℕ) → FramingView
+stopped_with m fault place = record m {
   totals = record { messages = m.totals.messages; faults = suc m.totals.faults; octets = place };
   stopped = Some fault;
   header = [];
@@ -23,14 +23,14 @@ stop m fault place = record m {
 }
 
 -- if all octets of a payload of this size have come, the next header begins
-unfoldable pub end_message : FramingView → ℕ → FramingView
-end_message m size = if m.payload_count == size then
+unfoldable pub cleared_if_complete : (fields : FramingView) (size : ℕ) → FramingView
+cleared_if_complete m size = if m.payload_count == size then
     record m { header = []; payload_count = 0 } else m
 
 -- ---- The finish.
 
-unfoldable pub is_cut_short : FramingView → Bool
+unfoldable pub is_cut_short : (fields : FramingView) → Bool
 is_cut_short m = is_none m.stopped && nat_lt 0 (length m.header)
 
-unfoldable pub final_totals : FramingView → Totals
+unfoldable pub final_totals : (fields : FramingView) → Totals
 final_totals m = with_truncated (is_cut_short m) m.totals

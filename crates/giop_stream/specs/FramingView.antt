@@ -2,7 +2,7 @@
 use Rattle.giop_stream.specs.declared.framing.Framing.{Framing}
 use Rattle.giop_stream.specs.EngineView.{FramingView}
 
-abbrev pub framing_view : Framing → FramingView
+abbrev pub framing_view : (framing : Framing) → FramingView
 framing_view f = record {
   totals = f.totals;
   stopped = f.stopped;

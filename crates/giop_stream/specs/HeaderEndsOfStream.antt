@@ -12,29 +12,36 @@ use Rattle.giop_stream.specs.EngineState.{owner_of_next}
 
 -- the headers and names of a message that end in `octets`, after the octets of it that came before;
 -- none if the message is over
-abbrev pub run_header_ends : MessageKey → Option Kept → List ℕ → List HeaderEnd
+abbrev pub run_header_ends : (key : MessageKey) (kept : Option Kept) (octets : List ℕ) →
+    List HeaderEnd
 run_header_ends w None octets = []
 run_header_ends w (Some kept) octets =
     header_ends kept.phase w.number w.header kept.octets octets
 
 -- the same for the message that the octets belong to
-abbrev pub owner_header_ends : Tracked → Option MessageKey → List ℕ → List HeaderEnd
+abbrev pub owner_header_ends : (tracked : Tracked) (owner : Option MessageKey) (octets : List ℕ) →
+    List HeaderEnd
 owner_header_ends c None octets = []
 owner_header_ends c (Some w) octets = run_header_ends w (c.known w.number) octets
 
--- the same for octets of a payload after the stream p; they belong to the current message, or to
--- the one that it continues
-abbrev pub current_header_ends : Rules → List ℕ → Option CutMessage → List ℕ → List HeaderEnd
-current_header_ends R p None octets = []
-current_header_ends R p (Some m) octets =
-    owner_header_ends (tracked_after R p) (owner_of_next (before_by R (events R p)) m) octets
+-- the same for octets of a payload after the stream; they belong to the current message, or to the
+-- one that it continues
+abbrev pub current_header_ends : (R : Rules) (stream : List ℕ) (current : Option CutMessage)
+    (octets : List ℕ) → List HeaderEnd
+current_header_ends R stream None octets = []
+current_header_ends R stream (Some m) octets =
+    owner_header_ends (tracked_after R stream) (owner_of_next (before_by R (events R stream)) m)
+    octets
 
--- the same for the octet x after the stream p
-unfoldable pub header_ends_at : Rules → List ℕ → ℕ → List HeaderEnd
-header_ends_at R p x = if is_none (cut p).stop
-    && nat_lt (length p) limit then current_header_ends R p (cut p).current (x ∷ []) else []
+-- the same for the octet after the stream
+unfoldable pub header_ends_at : (R : Rules) (stream : List ℕ) (octet : ℕ) → List HeaderEnd
+header_ends_at R stream octet = if is_none (cut stream).stop
+    && nat_lt (length stream) limit then current_header_ends R stream (cut stream).current
+    (octet ∷ [])
+    else []
 
--- the headers and names that end in these octets after the stream p
-unfoldable pub header_ends_from : Rules → List ℕ → List ℕ → List HeaderEnd
-header_ends_from R p [] = []
-header_ends_from R p (x ∷ xs) = header_ends_at R p x ++ header_ends_from R (p ++ x ∷ []) xs
+-- the headers and names that end in these octets after the stream
+unfoldable pub header_ends_from : (R : Rules) (stream octets : List ℕ) → List HeaderEnd
+header_ends_from R stream [] = []
+header_ends_from R stream (x ∷ xs) =
+    header_ends_at R stream x ++ header_ends_from R (stream ++ x ∷ []) xs

@@ -5,9 +5,9 @@ use Rattle.giop_checkpoint.specs.declared.fault.StreamFault.{StreamFault}
 use Rattle.giop_stream.specs.declared.fault.FramingFault.{FramingFault}
 use Rattle.giop_stream.specs.Framing.{cut}
 use Rattle.giop_message.specs.Phases.{Phase, unbroken}
-use Rattle.giop_message.specs.MessageReader.{LineClass, Value, Call, Rest, Fault, End, MessageReader, is_last}
+use Rattle.giop_message.specs.MessageReader.{LineClass, Value, Call, Rest, Fault, End, MessageReader, is_last_class}
 use Rattle.giop_stream.specs.Rules.{Rules}
-use Rattle.giop_stream.specs.Events.{Event, EventKind, Begins, Takes, Opens, Continues, Seams, Cancelled, Faults, Closes, events, joined, phase_of}
+use Rattle.giop_stream.specs.Events.{Event, EventKind, Begins, Takes, Opens, Continues, Seams, Cancelled, Faults, Closes, events, joined_octets, phase_of}
 
 -- The classes of lines. A framing fault has its class before the rest, so that the rest, the end
 -- and the other faults of its octet come after it.
@@ -16,7 +16,7 @@ pub data Class : Type 0 where
       Stop : Class
 
 -- the order of the classes among the lines of one octet
-abbrev pub rank : Class → ℕ
+abbrev pub rank : (class : Class) → ℕ
 rank Start = 0
 rank ValueClass = 1
 rank CallClass = 2
@@ -28,8 +28,8 @@ rank FaultClass = 7
 rank EndClass = 8
 rank Stop = 9
 
-abbrev pub is_of : Class → Class → Bool
-is_of a b = rank b == rank a
+abbrev pub is_same_class : (a b : Class) → Bool
+is_same_class a b = rank b == rank a
 
 unfoldable pub classes : List Class
 classes = Start ∷ ValueClass ∷ CallClass ∷ Continuing ∷ Cancelling ∷ FramingFaultClass ∷ RestClass ∷
@@ -43,7 +43,7 @@ pub data Content : Type 0 where
   Faulted : FramingFault → Content
   Stopped : StreamFault → Content
 
-abbrev pub class_of : Content → Class
+abbrev pub class_of : (content : Content) → Class
 class_of (Started header) = Start
 class_of (Said Value text) = ValueClass
 class_of (Said Call text) = CallClass
@@ -60,11 +60,11 @@ pub record StreamLine : Type 0 where
   pub number : ℕ  -- the number of the message; 0 for the stream
   pub content : Content
 
-abbrev pub has_class : Class → StreamLine → Bool
-has_class c l = is_of c (class_of l.content)
+abbrev pub has_class : (class : Class) (line : StreamLine) → Bool
+has_class c l = is_same_class c (class_of l.content)
 
 -- a line of this event, with this content
-unfoldable pub line : Event → Content → StreamLine
+unfoldable pub line : (event : Event) (content : Content) → StreamLine
 line e content = record { place = e.place; number = e.subject.number; content = content }
 
 -- what is kept of a message: its octets after the header, and what padding is counted by in them
@@ -77,12 +77,17 @@ abbrev pub nothing_kept : Kept
 nothing_kept = record { octets = []; phase = unbroken }
 
 -- what these events keep of the message of this number
-abbrev pub kept_of : ℕ → List Event → Kept
-kept_of i es = record { octets = joined i es; phase = phase_of i es }
+abbrev pub kept_of : (number : ℕ) (events : List Event) → Kept
+kept_of number events = record {
+  octets = joined_octets number events;
+  phase =
+      phase_of number events;
+}
 
 -- The lines of one event. Of its message `so_far` is kept before the event, and `all` of the whole
 -- stream.
-unfoldable pub lines_of_event : MessageReader → Event → Kept → Kept → EventKind → List StreamLine
+unfoldable pub lines_of_event : (R : MessageReader) (event : Event) (so_far all : Kept)
+    (event_kind : EventKind) → List StreamLine
 lines_of_event R e so_far all Begins = line e (Started e.subject.header) ∷ []
 lines_of_event R e so_far all (Takes x) =
     map (λ r. line e (Said r.line_class r.text))
@@ -98,7 +103,7 @@ lines_of_event R e so_far all Closes = map (λ l. line e (Said l.0 l.1))
 
 -- The lines of these events. The events before them are `past`, and those of the whole stream are
 -- `all`.
-unfoldable pub lines_of_events : MessageReader → List Event → List Event → List Event →
+unfoldable pub lines_of_events : (R : MessageReader) (all past events : List Event) →
     List StreamLine
 lines_of_events R all past [] = []
 lines_of_events R all past (e ∷ es) =
@@ -107,44 +112,45 @@ lines_of_events R all past (e ∷ es) =
 
 -- Lines in the order of their classes; and lines up to this place in the order of places, and at
 -- each place in the order of classes.
-unfoldable pub by_class : List StreamLine → List StreamLine
-by_class ls = flat_map (λ class. filter (has_class class) ls) classes
+unfoldable pub by_class : (lines : List StreamLine) → List StreamLine
+by_class lines = flat_map (λ class. filter (has_class class) lines) classes
 
-unfoldable pub in_order : ℕ → List StreamLine → List StreamLine
-in_order zero ls = []
-in_order (suc n) ls = in_order n ls ++ by_class (filter (λ l. l.place == suc n) ls)
+unfoldable pub in_order : (number : ℕ) (lines : List StreamLine) → List StreamLine
+in_order zero lines = []
+in_order (suc number) lines =
+    in_order number lines ++ by_class (filter (λ l. l.place == suc number) lines)
 
 -- whether a line ends its message: it is a fault, the cancelled line or the end
-abbrev pub ends : Content → Bool
-ends (Started header) = false
-ends (Said line_class text) = is_last line_class
-ends (ContinuesMessage i) = false
-ends (CancelledBy j) = true
-ends (Faulted fault) = true
-ends (Stopped fault) = false
+abbrev pub is_last_content : (content : Content) → Bool
+is_last_content (Started header) = false
+is_last_content (Said line_class text) = is_last_class line_class
+is_last_content (ContinuesMessage i) = false
+is_last_content (CancelledBy j) = true
+is_last_content (Faulted fault) = true
+is_last_content (Stopped fault) = false
 
-unfoldable pub is_last_of : ℕ → StreamLine → Bool
-is_last_of i l = (l.number == i) && ends l.content
+unfoldable pub is_last_line_of : (number : ℕ) (l : StreamLine) → Bool
+is_last_line_of number l = (l.number == number) && is_last_content l.content
 
 -- The lines of each message up to its first fault, cancelled line or end. There are none of a
 -- message for which `is_over` is true.
-unfoldable pub up_to_last_line : (ℕ → Bool) → List StreamLine → List StreamLine
+unfoldable pub up_to_last_line : (is_over : ℕ → Bool) (lines : List StreamLine) → List StreamLine
 up_to_last_line is_over [] = []
 up_to_last_line is_over (l ∷ ls) =
     if is_over l.number then up_to_last_line is_over ls
-    else l ∷ up_to_last_line (λ i. is_over i || is_last_of i l) ls
+    else l ∷ up_to_last_line (λ i. is_over i || is_last_line_of i l) ls
 
 -- the lines of the messages
-unfoldable pub lines_of_messages : Rules → List ℕ → List StreamLine
-lines_of_messages R p =
-    let all = events R p in
-    up_to_last_line (λ i. false) (in_order (length p) (lines_of_events R.reading all [] all))
+unfoldable pub lines_of_messages : (R : Rules) (stream : List ℕ) → List StreamLine
+lines_of_messages R stream =
+    let all = events R stream in
+    up_to_last_line (λ i. false) (in_order (length stream) (lines_of_events R.reading all [] all))
 
-unfoldable pub stop_line : Option (ℕ × StreamFault) → List StreamLine
+unfoldable pub stop_line : (found : Option (ℕ × StreamFault)) → List StreamLine
 stop_line None = []
 stop_line (Some found) = record { place = found.0; number = 0; content = Stopped found.1 } ∷ []
 
 -- All lines of the stream. No octet after the octet of the stream fault belongs to a message, so
 -- the line of the stream fault is the last one.
-unfoldable pub lines : Rules → List ℕ → List StreamLine
-lines R p = lines_of_messages R p ++ stop_line (cut p).stop
+unfoldable pub lines : (R : Rules) (stream : List ℕ) → List StreamLine
+lines R stream = lines_of_messages R stream ++ stop_line (cut stream).stop

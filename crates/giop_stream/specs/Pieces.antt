@@ -5,16 +5,16 @@ use Rattle.giop_stream.specs.Rules.{Rules}
 use Rattle.giop_stream.specs.Stream.{text, closing}
 use Rattle.giop_stream.specs.EngineHolds.{added}
 
--- what is written of these pieces after the stream p: what each piece adds to the text of what
--- comes before it
-unfoldable pub fed : Rules → List ℕ → List (List ℕ) → List ℕ
-fed R p [] = []
-fed R p (piece ∷ pieces) = added R p piece ++ fed R (p ++ piece) pieces
+-- what is written of these pieces after the stream: what each piece adds to the text of what comes
+-- before it
+unfoldable pub fed : (R : Rules) (stream : List ℕ) (pieces : List (List ℕ)) → List ℕ
+fed R stream [] = []
+fed R stream (piece ∷ pieces) = added R stream piece ++ fed R (stream ++ piece) pieces
 
 -- all that is written of a stream, with its end
-unfoldable pub whole_text : Rules → List ℕ → List ℕ
-whole_text R p = text R p ++ closing R p
+unfoldable pub whole_text : (R : Rules) (stream : List ℕ) → List ℕ
+whole_text R stream = text R stream ++ closing R stream
 
--- what is written of a stream after its front p, if q follows
-unfoldable pub remaining : Rules → List ℕ → List ℕ → List ℕ
-remaining R p q = added R p q ++ closing R (p ++ q)
+-- what is written of a stream after this front, if this rest follows
+unfoldable pub remaining : (R : Rules) (front rest : List ℕ) → List ℕ
+remaining R front rest = added R front rest ++ closing R (front ++ rest)

@@ -12,7 +12,7 @@ use Rattle.giop_checkpoint.specs.declared.fixed.NextOctet.{NextOctet}
 use Rattle.giop_checkpoint.specs.declared.fixed.NextOctet.TheVariants.{Header, Payload, Stopped}
 use Rattle.giop_checkpoint.specs.declared.record.FirstRecord.{FirstRecord}
 use Rattle.giop_checkpoint.specs.declared.record.RecordKind.TheVariants as record_kinds
-use Rattle.giop_checkpoint.specs.Records.{Entry, entry_octets}
+use Rattle.giop_checkpoint.specs.Records.{StoredRecord, stored_record_octets}
 use Rattle.giop_stream.specs.declared.slots.Slots.{Slots}
 use Rattle.giop_stream.specs.declared.slots.PayloadOwner.{PayloadOwner}
 use Rattle.giop_stream.specs.declared.slots.PayloadOwner.TheVariants.{Open}
@@ -25,53 +25,54 @@ use Rattle.giop_stream.specs.Checkpoint.{IsOpen, IsCurrent, AreEntries}
 
 -- ---- the fixed part
 
-abbrev pub stop_in : NextOctet → Option StreamFault
+abbrev pub stop_in : (place : NextOctet) → Option StreamFault
 stop_in (Header held) = None
 stop_in (Payload header left) = None
 stop_in (Stopped fault) = Some fault
 
 -- the header octets that were read until now
-abbrev pub header_in : NextOctet → List ℕ
+abbrev pub header_in : (place : NextOctet) → List ℕ
 header_in (Header held) = held.items
 header_in (Payload header left) = header
 header_in (Stopped fault) = []
 
 -- how many payload octets were read
-abbrev pub payload_count_in : NextOctet → ℕ
+abbrev pub payload_count_in : (place : NextOctet) → ℕ
 payload_count_in (Header held) = 0
 payload_count_in (Payload header left) = size header - left
 payload_count_in (Stopped fault) = 0
 
 -- the owner of the payload: the message of this record, if it is an open one; else the current
 -- message, which was loaded before
-abbrev pub owner_by : Option ℕ → ℕ → PayloadOwner → PayloadOwner
+abbrev pub owner_by : (index : Option ℕ) (many : ℕ) (current : PayloadOwner) → PayloadOwner
 owner_by None many current = current
-owner_by (Some k) many current = if nat_lt k many then Open (Some k) else current
+owner_by (Some index) many current = if nat_lt index many then Open (Some index) else current
 
 -- The owner is the current message, which represents these octets of this message, or there is
 -- none.
-abbrev pub IsCurrentOwner : Table → Answers → PayloadOwner → MessageKey → Option Kept → Type 0
+abbrev pub IsCurrentOwner : (C : Table) (answers : Answers) (payload_owner : PayloadOwner)
+    (key : MessageKey) (known : Option Kept) → Type 0
 IsCurrentOwner C l of w known = (index_of of ≡ None) × RepresentsMessage C l (current_of of) w known
 
 -- ---- what a message may be that is read again
 
 -- no Fragment of 1.1 was joined to the message
-abbrev pub IsUnbroken : Option Kept → Type 0
+abbrev pub IsUnbroken : (kept : Option Kept) → Type 0
 IsUnbroken None = Unit {0}
 IsUnbroken (Some kept) = kept.phase ≡ unbroken
 
 -- only where Fragments of 1.1 are joined, a message is open without a key; they are joined to no
 -- other message
-abbrev pub MayBeOpen : Table → Option ℕ → Option Kept → Type 0
+abbrev pub MayBeOpen : (C : Table) (id : Option ℕ) (known : Option Kept) → Type 0
 MayBeOpen C None known = joins_by C ≡ true
 MayBeOpen C (Some id) known = IsUnbroken known
 
 -- how many of these have no key
-abbrev pub lacks_key : Option ℕ → ℕ
+abbrev pub lacks_key : (id : Option ℕ) → ℕ
 lacks_key None = 1
 lacks_key (Some id) = 0
 
-abbrev pub without_key : {A : Type 0} → (A → Option ℕ) → List A → ℕ
+abbrev pub without_key : {A : Type 0} (key : A → Option ℕ) (list : List A) → ℕ
 without_key key [] = 0
 without_key key (x ∷ xs) = lacks_key (key x) + without_key key xs
 
@@ -84,67 +85,71 @@ pub record HasRoomFor (s : Slots) (held : List Held) : Type 0 where
 -- ---- a record
 
 -- a record that was read is this entry
-pub record IsEntry (first : FirstRecord) (e : Entry) : Type 0 where
-  pub own : first.«record» ≡ e.record_is
-  pub message : first.message ≡ e.message
-  pub frames : first.frames.now ≡ e.frames
+pub record IsEntry (first : FirstRecord) (stored : StoredRecord) : Type 0 where
+  pub record_read : first.«record» ≡ stored.record_is
+  pub message : first.message ≡ stored.message
+  pub frames : first.frames.now ≡ stored.frames
 
 -- the record may be that of a message by which padding is counted so: Fragments of 1.1 are joined
 -- only to an open message without a key
-abbrev pub MayHaveSeams : FirstRecord → Phase → Type 0
+abbrev pub MayHaveSeams : (first : FirstRecord) (phase : Phase) → Type 0
 MayHaveSeams first phase =
     (first.«record».record_kind ≡ record_kinds.OpenWithoutId) ⊎ (phase ≡ unbroken)
 
 -- the open message that a record gives
-abbrev pub pushed : FirstRecord → Option ℕ → Option Message → OpenEntry
-pushed first key message =
+abbrev pub open_entry_of_record : (first : FirstRecord) (key : Option ℕ)
+    (message : Option Message) → OpenEntry
+open_entry_of_record first key message =
     open_entry key first.«record».number first.«record».header message
 
 -- The record is the entry of an open message with these octets.
-pub record IsOpenEntry (C : Table) (l : Answers) (at : ℕ) (first : FirstRecord) (held : Held) : Type
+pub record IsOpenEntry (C : Table) (l : Answers) (place : ℕ) (first : FirstRecord)
+    (held : Held) : Type
     0 where
   pub kept : OpenEntry
-  pub entry : Entry
+  pub entry : StoredRecord
   pub entry_is : IsOpen kept entry
   pub read : IsEntry first entry
   pub slot_is : IsSlot C l kept held
   pub may : MayBeOpen C held.open_as.key held.kept
-  pub ready : IsReady C at kept.value.message
+  pub ready : IsReady C place kept.value.message
 
 -- The record is the entry of the current message with these octets.
-pub record IsCurrentEntry (C : Table) (l : Answers) (at : ℕ) (first : FirstRecord) (w : MessageKey)
+pub record IsCurrentEntry (C : Table) (answers : Answers) (place : ℕ) (first : FirstRecord)
+    (w : MessageKey)
     (known : Option Kept) : Type 0 where
   pub message : Message
-  pub entry : Entry
+  pub entry : StoredRecord
   pub entry_is : IsCurrent message entry
   pub read : IsEntry first entry
-  pub own_is : RepresentsMessage C l (Some message) w known
+  pub represents : RepresentsMessage C answers (Some message) w known
   pub whole : IsUnbroken known
-  pub ready : IsReady C at (Some message)
+  pub ready : IsReady C place (Some message)
 
 -- ---- the records that are left
 
 -- These octets are this number of entries, of these open messages and this current one.
 pub record AreEntriesOf (C : Table) (l : Answers) (at count : ℕ) (octets : List ℕ)
     (kept : List OpenEntry) (held : List Held) (current : Option Message) (w : MessageKey)
-    (known : Option Kept) (entries : List Entry) : Type 0 where
+    (known : Option Kept) (entries : List StoredRecord) : Type 0 where
   pub entries_are : AreEntries kept current entries
   pub count_is : count ≡ length entries
-  pub octets_are : octets ≡ flat_map entry_octets entries
+  pub octets_are : octets ≡ flat_map stored_record_octets entries
   pub slots_are : AreSlots C l kept held
   pub each_may : Each (λ slot. MayBeOpen C slot.open_as.key slot.kept) held
-  pub own_is : RepresentsMessage C l current w known
-  pub own_whole : IsUnbroken known
+  pub current_is : RepresentsMessage C l current w known
+  pub unbroken : IsUnbroken known
   pub each_ready : Each (λ slot. IsReady C at slot.value.message) kept
-  pub own_ready : IsReady C at current
+  pub current_ready : IsReady C at current
 
 -- These octets are entries of open messages that represent these, and of a current one.
-pub record AreLeft (C : Table) (l : Answers) (at count : ℕ) (octets : List ℕ) (held : List Held)
-    (w : MessageKey) (known : Option Kept) : Type 0 where
+pub record AreRecordsLeft (C : Table) (answers : Answers) (at count : ℕ) (octets : List ℕ)
+    (held : List Held)
+    (key : MessageKey) (known : Option Kept) : Type 0 where
   pub kept : List OpenEntry
   pub current : Option Message
-  pub entries : List Entry
-  pub are : AreEntriesOf C l at count octets kept held current w known entries
+  pub entries : List StoredRecord
+  pub are : AreEntriesOf C answers at count octets kept held current key known entries
 
 -- These open messages were added.
 pub record HasAdded (C : Table) (l : Answers) (before after : Slots) (held : List Held) : Type 0
@@ -155,14 +160,14 @@ pub record HasAdded (C : Table) (l : Answers) (before after : Slots) (held : Lis
 
 -- The first of this number of records was added. It is the record of an open message, and `rest`
 -- are the others.
-pub record HasAddedOpen (C : Table) (l : Answers) (at count : ℕ) (before after : Slots)
-    (rest : List ℕ) (held : List Held) (w : MessageKey) (known : Option Kept) : Type 0 where
+pub record HasAddedOpen (C : Table) (answers : Answers) (at count : ℕ) (before after : Slots)
+    (rest : List ℕ) (held : List Held) (key : MessageKey) (known : Option Kept) : Type 0 where
   pub here : Held
   pub others : List Held
   pub held_are : held ≡ here ∷ others
-  pub added : HasAdded C l before after (here ∷ [])
+  pub added : HasAdded C answers before after (here ∷ [])
   pub same_owner : after.owner ≡ before.owner
-  pub left : AreLeft C l at (count - 1) rest others w known
+  pub left : AreRecordsLeft C answers at (count - 1) rest others key known
 
 -- The first record was added. It is the record of the current message, which is the last one.
 pub record HasAddedOwn (C : Table) (l : Answers) (count : ℕ) (before after : Slots)
@@ -173,8 +178,8 @@ pub record HasAddedOwn (C : Table) (l : Answers) (count : ℕ) (before after : S
   pub last : count - 1 ≡ 0
 
 -- The first record was added: the record of an open message, or the record of the current one.
-abbrev pub HasAddedFirst : Table → Answers → ℕ → ℕ → Slots → Slots → List ℕ → List Held → MessageKey
-    → Option Kept → Type 0
+abbrev pub HasAddedFirst : (C : Table) (answers : Answers) (at count : ℕ) (before after : Slots)
+    (rest : List ℕ) (held : List Held) (key : MessageKey) (known : Option Kept) → Type 0
 HasAddedFirst C l at count before after rest held w known =
     HasAddedOpen C l at count before after rest held w known
     ⊎ HasAddedOwn C l count before after held w known

@@ -4,7 +4,7 @@ use Rattle.std.specs.Prelude.{ℕ, Bool, List, Option, nat_le}
 use Rattle.giop_sig.specs.Table.{Table}
 use Rattle.giop_message.specs.Phases.{Phase}
 use Rattle.giop_message.specs.MessageReader.{MessageReader}
-use Rattle.giop_message.specs.Messages.{message, message_lines}
+use Rattle.giop_message.specs.Messages.{read_message, message_lines}
 use Rattle.giop_message.specs.Signatures.{RequestTable, Answers, by_list, signatures_of}
 use Rattle.giop_message.specs.ReaderOfTable.{message_reader, first_request_id}
 use Rattle.giop_stream.specs.declared.slots.TheConstants.{MOST_OPEN}
@@ -21,17 +21,17 @@ pub record Rules : Type 0 where
   pub joins : Bool
 
 -- Fragments of 1.1 are joined by signature files from version 3 on.
-abbrev pub joins_by : Table → Bool
+abbrev pub joins_by : (C : Table) → Bool
 joins_by C = nat_le 3 C.version
 
 -- the request id by a table: the one that the header shows
-unfoldable pub asks_by : Table → Answers → RequestIds
+unfoldable pub asks_by : (C : Table) (answers : Answers) → RequestIds
 asks_by C a phase number header xs =
-    first_request_id (message_lines (message (signatures_of C (a number) phase) header xs))
+    first_request_id (message_lines (read_message (signatures_of C (a number) phase) header xs))
 
 -- the rules of a table, of the operations that the ids of each message answer, and of this number
 -- of open messages
-abbrev pub rules_by : Table → Answers → ℕ → Rules
+abbrev pub rules_by : (C : Table) (answers : Answers) (most : ℕ) → Rules
 rules_by C a most = record {
   reading = message_reader C a;
   asks = asks_by C a;
@@ -40,7 +40,7 @@ rules_by C a most = record {
 }
 
 -- the rules if a request table gives the operations, the same ones for each message
-abbrev pub rules : Table → RequestTable → ℕ → Rules
+abbrev pub rules : (C : Table) (request_table : RequestTable) (most : ℕ) → Rules
 rules C l most = rules_by C (by_list l) most
 
 -- the greatest number of open messages that an engine may allow

@@ -2,25 +2,28 @@
 -- message that continues it, those after the request id, or all of them in 1.1 (meaning).
 use Rattle.std.specs.Prelude.{ℕ, List, [], ◌∷◌, ◌++◌, take, drop, Option, Some, None, ◌==◌, if◌then◌else◌}
 use Rattle.giop_stream.specs.Framing.{CutMessage}
-use Rattle.giop_stream.specs.Kinds.{is_any_fragment, named_at}
+use Rattle.giop_stream.specs.Kinds.{is_any_fragment, lookup_offset}
 use Rattle.giop_stream.specs.Rules.{Rules}
-use Rattle.giop_stream.specs.Events.{Before, Event, Open, before_by, opener_of, events_of}
+use Rattle.giop_stream.specs.Events.{OpenState, Event, Open, before_by, opener_of, events_of}
 
-unfoldable pub continued : ℕ → Option Open → List ℕ → List ℕ
-continued i None xs = []
-continued i (Some o) xs = if o.opener.number == i then xs else []
+unfoldable pub octets_if_joined_to : (number : ℕ) (other : Option Open) (octets : List ℕ) → List ℕ
+octets_if_joined_to number None octets = []
+octets_if_joined_to number (Some o) octets = if o.opener.number == number then octets else []
 
--- the octets of message m that belong to the joined message i, if this stood before m
-unfoldable pub share : ℕ → Before → CutMessage → List ℕ
-share i b m =
+-- the octets of a message that belong to the joined message of this number, if this stood before
+-- the message
+unfoldable pub joined_share : (number : ℕ) (before : OpenState) (message : CutMessage) → List ℕ
+joined_share number b m =
     if is_any_fragment m.header
-    then (if m.number == i then take (named_at m.header) m.payload else [])
-    ++ continued i (opener_of b m) (drop (named_at m.header) m.payload)
-    else (if m.number == i then m.payload else [])
+    then (if m.number == number then take (lookup_offset m.header) m.payload else [])
+    ++ octets_if_joined_to number (opener_of b m) (drop (lookup_offset m.header) m.payload)
+    else (if m.number == number then m.payload else [])
 
 -- those of several messages, after these events of the messages before them
-unfoldable pub shares : Rules → ℕ → List Event → List CutMessage → List ℕ
-shares R i past [] = []
-shares R i past (m ∷ ms) =
+unfoldable pub joined_shares : (R : Rules) (number : ℕ) (past : List Event)
+    (messages : List CutMessage) →
+    List ℕ
+joined_shares R number past [] = []
+joined_shares R number past (m ∷ ms) =
     let b = before_by R past in
-    share i b m ++ shares R i (past ++ events_of R.most b m) ms
+    joined_share number b m ++ joined_shares R number (past ++ events_of R.most b m) ms

@@ -5,6 +5,6 @@ use Rattle.giop_stream.specs.declared.fault.Stop.{Stop}
 use Rattle.giop_stream.specs.declared.fault.Stop.TheVariants as stop
 
 -- a put failed, or the engine had failed before the call
-abbrev pub stop_number : Stop → ℕ
+abbrev pub stop_number : (stop : Stop) → ℕ
 stop_number (stop.Out fault) = 1
 stop_number stop.Failed = 2

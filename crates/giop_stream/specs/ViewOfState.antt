@@ -14,25 +14,26 @@ use Rattle.giop_stream.specs.EngineState.{State, state_of}
 use Rattle.giop_stream.specs.EngineStep.{Step}
 
 -- how many payload octets were read
-unfoldable pub payload_count_in : State → ℕ
+unfoldable pub payload_count_in : (state : State) → ℕ
 payload_count_in s = if nat_lt (length s.held) 12 then 0 else size s.held - s.left
 
 -- The fields show this state.
-pub record Shows (C : Table) (l : Answers) (f : FramingView) (s : State) : Type 0 where
-  pub totals : f.totals ≡ s.totals
-  pub stopped : f.stopped ≡ s.stop
-  pub header : f.header ≡ s.held
-  pub payload_count : f.payload_count ≡ payload_count_in s
-  pub slots : SlotsRepresent C l f.slots s.tracked s.owner
+pub record Shows (C : Table) (answers : Answers) (fields : FramingView)
+    (state : State) : Type 0 where
+  pub totals : fields.totals ≡ state.totals
+  pub stopped : fields.stopped ≡ state.stop
+  pub header : fields.header ≡ state.held
+  pub payload_count : fields.payload_count ≡ payload_count_in state
+  pub slots : SlotsRepresent C answers fields.slots state.tracked state.owner
 
 -- The state is the state of an engine that has read some stream of octets.
-pub record IsReached (C : Table) (l : Answers) (most : ℕ) (s : State) : Type 0 where
+pub record IsReached (C : Table) (answers : Answers) (most : ℕ) (state : State) : Type 0 where
   pub stream : List ℕ
   pub octets : AreOctets stream
-  pub held : s ≡ state_of (rules_by C l most) stream
+  pub held : state ≡ state_of (rules_by C answers most) stream
 
 -- a call writes the lines of this step, and its fields then show the state of the step
-pub record Does {A E : Type 0} (C : Table) (l : Answers) (result : Result A E)
-    (before after : OutLog) (f : FramingView) (one : Step) : Type 0 where
+pub record Does {A E : Type 0} (C : Table) (answers : Answers) (result : Result A E)
+    (before after : OutLog) (fields : FramingView) (one : Step) : Type 0 where
   pub text : Writes result before after (lines_text one.lines)
-  pub shows : OnOk result (Shows C l f one.state)
+  pub shows : OnOk result (Shows C answers fields one.state)

@@ -11,16 +11,16 @@ pub struct Current {
     pub place: u64,
     /// How many octets of the payload were read, with this one.
     pub payload_count: u32,
-    ghost behind_header: { 12 ≤ place },
+    ghost after_header: { 12 ≤ place },
 }
 
 impl Current {
-    ghost use Rattle.giop_stream.specs.Further.{further};
+    ghost use Rattle.giop_stream.specs.Further.{current_after};
 
     /// The same message after n octets more of its payload.
-    pub fn further(mut self, n: usize) -> Current
+    pub fn after_octets(mut self, n: usize) -> Current
         requires { self.place + n < 2 ^ 64 }
-        ensures { result ≡ further self n }
+        ensures { result ≡ current_after self n }
     {
         let count = u32::try_from(n).unwrap_or(u32::MAX);
         self.place += n as u64;

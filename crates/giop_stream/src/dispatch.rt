@@ -5,30 +5,31 @@ ghost use Rattle.giop_sig.specs.Table.{Table};
 ghost use Rattle.giop_message.specs.Signatures.{Answers};
 ghost use Rattle.giop_message.specs.ReaderOfTable.{message_reader};
 ghost use Rattle.giop_message.specs.MessageState.{AreKnown};
-ghost use Rattle.giop_message.specs.Headers.{size, is_cancel};
-ghost use Rattle.giop_stream.specs.Kinds.{is_old_fragment, is_old, has_fragments, is_any_fragment};
+ghost use Rattle.giop_message.specs.Headers.{size, is_cancel_request};
+ghost use Rattle.giop_stream.specs.Kinds.{is_fragment_1_1, is_fragmented_1_1, has_fragments, is_any_fragment};
 ghost use Rattle.giop_stream.specs.declared.fault.FramingFault.TheVariants.{OldFragment, NoOpen};
 ghost use Rattle.giop_stream.specs.Rules.{most_open};
 ghost use Rattle.giop_stream.specs.Framing.{CutMessage, with_payload};
-ghost use Rattle.giop_stream.specs.Events.{MessageKey, Open, Opens, Seams, Rising, events_at_header, events_at_name, events_at_end, message_key, now_of, taken, refusal, cancel_of, open_under, opener_of};
+ghost use Rattle.giop_stream.specs.Events.{MessageKey, Open, Opens, Seams, NumbersRise, events_at_header, events_at_name, events_at_end, message_key, last_octet_of, already_open_fault, opening_fault, cancel_event, open_under, opener_of};
 ghost use Rattle.giop_stream.specs.Effects.{effects, effect_to, with_octet};
 ghost use Rattle.giop_stream.specs.OpenSlots.{Tracked, IsNotOpen};
 ghost use Rattle.giop_stream.specs.SlotsRepresent.{SlotsRepresent, index_under, AreReady, KeepsRoom};
-ghost use Rattle.giop_stream.specs.DoesEffect.{DoesEffect, one_if, never, all};
+ghost use Rattle.giop_stream.specs.DoesEffect.{DoesEffect, count_one_if, count_none, count_all};
 ghost use Rattle.giop_stream.specs.HeaderEndsOfStream.{owner_header_ends};
 ghost use Rattle.giop_message.specs.HeaderEnds.{AgreesAtEnds, after_ends};
 ghost use Rattle.giop_message.specs.DueOctets.{TakesFront, StaysUndue};
-ghost use Rattle.giop_stream.specs.PayloadOwner.{IsAtName, IsBeforeMessage, IsAtHeader, IsBeforeOctets, IsAfterTake, IsAtOctet, before_with, owner_after_name, owner_after, name_events, end_events, octet_effect, octets_effect};
+ghost use Rattle.giop_stream.specs.PayloadOwner.{IsAtName, IsBeforeMessage, IsAtHeader, IsBeforeOctets, IsAfterTake, IsAtOctet, before_with, owner_after_name, owner_after, events_if_at_name, events_if_at_end, octet_effect, octets_effect};
 ghost use Rattle.giop_stream.specs.EngineState.{opener_key, owner_of_next};
 ghost use Rattle.giop_stream.specs.Continuation.{IsContinuing};
-ghost use Rattle.giop_stream.specs.Further.{further};
+ghost use Rattle.giop_stream.specs.Further.{current_after};
 
 use crate::current::Current;
 use crate::fault::FramingFault;
 use crate::header::size_of;
 use crate::kinds::{
-    is_cancel, is_followed, is_fragment, is_old, is_old_fragment, is_old_opener, is_opener,
-    is_short, may_be_cancelled, refused, same_order,
+    header_fault, is_cancel_request, is_continued, is_fragment_1_1, is_fragment_1_2,
+    is_fragmented_1_1, is_opener_1_1, is_opener_1_2, is_too_short_for_id, may_be_cancelled,
+    same_order,
 };
 use crate::lines::start_line;
 use crate::slots::Slots;
@@ -37,15 +38,15 @@ use giop_print::{Out, OutFault, continues_line};
 use giop_sig::Catalogue;
 
 /// Whether nobody can tell to which message the Fragments of this one would belong.
-fn is_doubtful(slots: &Slots, id: Option<u32>) -> bool
+fn is_owner_unknown(slots: &Slots, id: Option<u32>) -> bool
     ensures { result ≡ (is_none id && slots.now.is_mixed) }
 {
     id.is_none() && slots.is_mixed
 }
 
 /// The fault of a message with fragments if another one is open under its request id, or, as it, without one.
-fn taken(id: Option<u32>) -> FramingFault
-    ensures { result ≡ taken id }
+fn already_open_fault(id: Option<u32>) -> FramingFault
+    ensures { result ≡ already_open_fault id }
 {
     match id {
         Some(_) => FramingFault::IdOpen,
@@ -54,20 +55,20 @@ fn taken(id: Option<u32>) -> FramingFault
 }
 
 /// Why a message with fragments can't be opened under this request id, or without one.
-fn refusal(slots: &Slots, id: Option<u32>) -> Option<FramingFault>
+fn opening_fault(slots: &Slots, id: Option<u32>) -> Option<FramingFault>
     ensures value { (C : Table) (l : Answers) (c : Tracked) (owner : Option MessageKey) →
         SlotsRepresent C l slots.now c owner →
-        result ≡ refusal slots.now.slots.most (before_with C l c) id
+        result ≡ opening_fault slots.now.slots.most (before_with C l c) id
         (open_under (before_with C l c) id) }
     ensures room { IfNone result (length slots.now.slots.entries < slots.now.slots.most) }
     ensures only { IfNone result (index_under slots.now id ≡ None) }
     ensures joined { IfNone result ((is_none id && slots.now.is_mixed) ≡ false) }
 {
-    if is_doubtful(slots, id) {
+    if is_owner_unknown(slots, id) {
         return Some(FramingFault::OldFragment);
     }
-    if slots.find_by(id).is_some() {
-        return Some(taken(id));
+    if slots.find_under(id).is_some() {
+        return Some(already_open_fault(id));
     }
     if slots.is_full() {
         return Some(FramingFault::TooManyOpen);
@@ -76,7 +77,7 @@ fn refusal(slots: &Slots, id: Option<u32>) -> Option<FramingFault>
 }
 
 /// Faults a message with fragments that can't be opened. If its Fragments have no id, none is joined from now on.
-fn refuse<O: Out>(
+fn refuse_opening<O: Out>(
     slots: &mut Slots,
     now: Current,
     id: Option<u32>,
@@ -85,9 +86,9 @@ fn refuse<O: Out>(
 ) -> Result<bool, OutFault>
     ensures does { (C : Table) (l : Answers) (c : Tracked) (m : CutMessage) →
         IsAtName C l slots.old c m now id → has_fragments m.header ≡ true →
-        Some fault ≡ refusal slots.old.slots.most (before_with C l c) id
+        Some fault ≡ opening_fault slots.old.slots.most (before_with C l c) id
         (open_under (before_with C l c) id) →
-        DoesEffect C l one_if result (O.log out.old) (O.log out.new) slots.new
+        DoesEffect C l count_one_if result (O.log out.old) (O.log out.new) slots.new
         (effects (message_reader C l) c (events_at_name slots.old.slots.most (before_with C l c) m))
         (Some (message_key m)) }
     ensures room { KeepsRoom slots.old slots.new }
@@ -95,7 +96,7 @@ fn refuse<O: Out>(
     match id {
         Some(_) => slots.fault_message(now.number, fault, now.place, out),
         None => {
-            slots.mix();
+            slots.stop_joining_1_1();
             slots.fault_message(now.number, fault, now.place, out)
         }
     }
@@ -103,7 +104,7 @@ fn refuse<O: Out>(
 
 /// Opens a message with fragments under its request id, or without one.
 #[inline(always)]
-fn open(slots: &mut Slots, now: Current, id: Option<u32>)
+fn open_current(slots: &mut Slots, now: Current, id: Option<u32>)
     requires room { length slots.old.slots.entries < slots.old.slots.most }
     requires only { index_under slots.old id ≡ None }
     requires joined { (is_none id && slots.old.is_mixed) ≡ false }
@@ -120,7 +121,7 @@ fn open(slots: &mut Slots, now: Current, id: Option<u32>)
 }
 
 /// Opens a message with fragments, at its request id, or at its header if its Fragments have none; or faults it.
-fn open_message<O: Out>(
+fn open_or_fault<O: Out>(
     slots: &mut Slots,
     now: Current,
     id: Option<u32>,
@@ -128,33 +129,39 @@ fn open_message<O: Out>(
 ) -> Result<bool, OutFault>
     ensures does { (C : Table) (l : Answers) (c : Tracked) (m : CutMessage) →
         IsAtName C l slots.old c m now id → has_fragments m.header ≡ true →
-        DoesEffect C l one_if result (O.log out.old) (O.log out.new) slots.new
+        DoesEffect C l count_one_if result (O.log out.old) (O.log out.new) slots.new
         (effects (message_reader C l) c (events_at_name slots.old.slots.most (before_with C l c) m))
         (Some (message_key m)) }
     ensures room { KeepsRoom slots.old slots.new }
 {
-    match refusal(slots, id) {
-        Some(fault) => refuse(slots, now, id, fault, out),
+    match opening_fault(slots, id) {
+        Some(fault) => refuse_opening(slots, now, id, fault, out),
         None => {
-            open(slots, now, id);
+            open_current(slots, now, id);
             Ok(false)
         }
     }
 }
 
 /// Closes the open message at this index, at the request id of a CancelRequest, if it is one that may be cancelled.
-fn cancel_at<O: Out>(slots: &mut Slots, k: usize, now: Current, out: &mut O) -> Result<(), OutFault>
-    requires { k < length slots.old.slots.entries }
+fn cancel_at<O: Out>(
+    slots: &mut Slots,
+    index: usize,
+    now: Current,
+    out: &mut O,
+) -> Result<(), OutFault>
+    requires { index < length slots.old.slots.entries }
     ensures does { (C : Table) (l : Answers) (c : Tracked) (m : CutMessage) (i : Option ℕ)
         (o : Open) →
-        IsAtName C l slots.old c m now i → is_cancel m.header ≡ true →
-        slice_get c.still_open k ≡ Some o →
-        DoesEffect C l never result (O.log out.old) (O.log out.new) slots.new
-        (effects (message_reader C l) c (cancel_of (now_of m) (Some o))) (Some (message_key m)) }
+        IsAtName C l slots.old c m now i → is_cancel_request m.header ≡ true →
+        slice_get c.still_open index ≡ Some o →
+        DoesEffect C l count_none result (O.log out.old) (O.log out.new) slots.new
+        (effects (message_reader C l) c (cancel_event (last_octet_of m) (Some o))) (Some
+        (message_key m)) }
     ensures room { KeepsRoom slots.old slots.new }
 {
-    if may_be_cancelled(&slots.at(k).header) {
-        return slots.cancel(k, now.number, now.place, out);
+    if may_be_cancelled(&slots.open_at(index).header) {
+        return slots.cancel(index, now.number, now.place, out);
     }
     Ok(())
 }
@@ -169,16 +176,16 @@ fn cancel_pending<O: Out>(
     ensures does { (C : Table) (l : Answers) (c : Tracked) (m : CutMessage) →
         IsAtName C l slots.old c m now (Some id) →
         is_any_fragment m.header ≡ false → has_fragments m.header ≡ false →
-        is_cancel m.header ≡ true → opener_of (before_with C l c) m ≡ None →
-        DoesEffect C l never result (O.log out.old) (O.log out.new) slots.new
+        is_cancel_request m.header ≡ true → opener_of (before_with C l c) m ≡ None →
+        DoesEffect C l count_none result (O.log out.old) (O.log out.new) slots.new
         (effects (message_reader C l) c (events_at_name slots.old.slots.most (before_with C l c) m))
         (Some (message_key m)) }
     ensures room { KeepsRoom slots.old slots.new }
 {
-    let Some(k) = slots.pending() else {
+    let Some(k) = slots.find_1_1() else {
         return Ok(());
     };
-    if slots.asks(k, id) {
+    if slots.has_given_id(k, id) {
         return cancel_at(slots, k, now, out);
     }
     Ok(())
@@ -194,8 +201,8 @@ fn cancel_message<O: Out>(
     ensures does { (C : Table) (l : Answers) (c : Tracked) (m : CutMessage) →
         IsAtName C l slots.old c m now (Some id) →
         is_any_fragment m.header ≡ false → has_fragments m.header ≡ false →
-        is_cancel m.header ≡ true →
-        DoesEffect C l never result (O.log out.old) (O.log out.new) slots.new
+        is_cancel_request m.header ≡ true →
+        DoesEffect C l count_none result (O.log out.old) (O.log out.new) slots.new
         (effects (message_reader C l) c (events_at_name slots.old.slots.most (before_with C l c) m))
         (Some (message_key m)) }
     ensures room { KeepsRoom slots.old slots.new }
@@ -207,11 +214,11 @@ fn cancel_message<O: Out>(
 }
 
 /// The fault of a Fragment that continues no open message.
-fn unopened(slots: &Slots, now: Current) -> FramingFault
-    ensures { result ≡ (if is_old_fragment now.header && slots.now.is_mixed then OldFragment
+fn no_open_fault(slots: &Slots, now: Current) -> FramingFault
+    ensures { result ≡ (if is_fragment_1_1 now.header && slots.now.is_mixed then OldFragment
         else NoOpen) }
 {
-    if is_old_fragment(&now.header) && slots.is_mixed {
+    if is_fragment_1_1(&now.header) && slots.is_mixed {
         FramingFault::OldFragment
     } else {
         FramingFault::NoOpen
@@ -219,16 +226,20 @@ fn unopened(slots: &Slots, now: Current) -> FramingFault
 }
 
 /// Faults a Fragment that continues no open message. The rest of its payload belongs to no message.
-fn fault_unopened<O: Out>(slots: &mut Slots, now: Current, out: &mut O) -> Result<bool, OutFault>
+fn fault_unmatched_fragment<O: Out>(
+    slots: &mut Slots,
+    now: Current,
+    out: &mut O,
+) -> Result<bool, OutFault>
     ensures does { (C : Table) (l : Answers) (c : Tracked) (m : CutMessage) (id : Option ℕ) →
         IsAtName C l slots.old c m now id →
         is_any_fragment m.header ≡ true → opener_of (before_with C l c) m ≡ None →
-        DoesEffect C l one_if result (O.log out.old) (O.log out.new) slots.new
+        DoesEffect C l count_one_if result (O.log out.old) (O.log out.new) slots.new
         (effects (message_reader C l) c (events_at_name slots.old.slots.most (before_with C l c) m))
         None }
     ensures room { KeepsRoom slots.old slots.new }
 {
-    let fault = unopened(slots, now);
+    let fault = no_open_fault(slots, now);
     let faulted = slots.fault_message(now.number, fault, now.place, out);
     slots.set_no_owner();
     faulted
@@ -236,16 +247,16 @@ fn fault_unopened<O: Out>(slots: &mut Slots, now: Current, out: &mut O) -> Resul
 
 /// Notes that the payload of a Fragment of GIOP 1.1 begins at the next octet of its owner. Padding in a Fragment of GIOP
 /// 1.2 is counted on.
-fn seam_old(slots: &mut Slots, now: Current)
+fn note_seam(slots: &mut Slots, now: Current)
     ensures kept { (C : Table) (l : Answers) (c : Tracked) (k : ℕ) (o : Open) →
         SlotsRepresent C l slots.old c (Some o.opener) → slice_get c.still_open k ≡ Some o →
-        Rising c.still_open →
-        SlotsRepresent C l slots.new (if is_old now.header
+        NumbersRise c.still_open →
+        SlotsRepresent C l slots.new (if is_fragmented_1_1 now.header
         then (effect_to C l now.place c (Some o.opener) Seams).tracked else c) (Some o.opener) }
     ensures room { KeepsRoom slots.old slots.new }
 {
-    if is_old(&now.header) {
-        slots.seam();
+    if is_fragmented_1_1(&now.header) {
+        slots.note_seam();
     }
 }
 
@@ -253,27 +264,27 @@ fn seam_old(slots: &mut Slots, now: Current)
 #[tactic(auto, using(giop_print::proofs::Writing::writes_then, giop_print::proofs::Writing::writes_err))]
 pub fn continue_message<O: Out>(
     slots: &mut Slots,
-    k: usize,
+    index: usize,
     now: Current,
     out: &mut O,
 ) -> Result<bool, OutFault>
-    requires { k < length slots.old.slots.entries }
+    requires { index < length slots.old.slots.entries }
     ensures does { (C : Table) (l : Answers) (c : Tracked) (owner : Option MessageKey) (m :
         CutMessage)
         (o : Open) →
         IsContinuing C l slots.old c owner m now →
         is_any_fragment m.header ≡ true → opener_of (before_with C l c) m ≡ Some o →
-        slice_get c.still_open k ≡ Some o →
-        DoesEffect C l one_if result (O.log out.old) (O.log out.new) slots.new
+        slice_get c.still_open index ≡ Some o →
+        DoesEffect C l count_one_if result (O.log out.old) (O.log out.new) slots.new
         (effects (message_reader C l) c (events_at_name slots.old.slots.most (before_with C l c) m))
         (Some o.opener) }
     ensures room { KeepsRoom slots.old slots.new }
 {
-    let opener = slots.at(k);
+    let opener = slots.open_at(index);
     let (number, order) = (opener.number, order_of(&opener.header));
-    slots.set_open_owner(k);
+    slots.set_open_owner(index);
     continues_line(out, now.number, number)?;
-    seam_old(slots, now);
+    note_seam(slots, now);
     if same_order(order_of(&now.header), order) {
         return Ok(false);
     }
@@ -290,14 +301,14 @@ fn join_fragment<O: Out>(
 ) -> Result<bool, OutFault>
     ensures does { (C : Table) (l : Answers) (c : Tracked) (m : CutMessage) →
         IsAtName C l slots.old c m now id → is_any_fragment m.header ≡ true →
-        DoesEffect C l one_if result (O.log out.old) (O.log out.new) slots.new
+        DoesEffect C l count_one_if result (O.log out.old) (O.log out.new) slots.new
         (effects (message_reader C l) c (events_at_name slots.old.slots.most (before_with C l c) m))
         (opener_key (opener_of (before_with C l c) m)) }
     ensures room { KeepsRoom slots.old slots.new }
 {
-    match slots.find_by(id) {
+    match slots.find_under(id) {
         Some(k) => continue_message(slots, k, now, out),
-        None => fault_unopened(slots, now, out),
+        None => fault_unmatched_fragment(slots, now, out),
     }
 }
 
@@ -310,18 +321,18 @@ pub fn at_request_id<O: Out>(
 ) -> Result<bool, OutFault>
     ensures does { (C : Table) (l : Answers) (c : Tracked) (m : CutMessage) →
         IsAtName C l slots.old c m now (Some id) →
-        DoesEffect C l one_if result (O.log out.old) (O.log out.new) slots.new
+        DoesEffect C l count_one_if result (O.log out.old) (O.log out.new) slots.new
         (effects (message_reader C l) c (events_at_name slots.old.slots.most (before_with C l c) m))
         (owner_after_name (before_with C l c) m) }
     ensures room { KeepsRoom slots.old slots.new }
 {
-    if is_fragment(&now.header) {
+    if is_fragment_1_2(&now.header) {
         return join_fragment(slots, now, Some(id), out);
     }
-    if is_opener(&now.header) {
-        return open_message(slots, now, Some(id), out);
+    if is_opener_1_2(&now.header) {
+        return open_or_fault(slots, now, Some(id), out);
     }
-    if !is_cancel(&now.header) {
+    if !is_cancel_request(&now.header) {
         return Ok(false);
     }
     cancel_message(slots, now, id, out)?;
@@ -330,7 +341,7 @@ pub fn at_request_id<O: Out>(
 
 /// Does what the last octet of a message does. A joined message is complete with the last octet of its last Fragment, any
 /// other message with this octet. Returns whether a message is faulted.
-pub fn at_end<O: Out>(
+pub fn at_message_end<O: Out>(
     slots: &mut Slots,
     catalogue: &Catalogue,
     now: Current,
@@ -339,17 +350,17 @@ pub fn at_end<O: Out>(
     requires ready { AreReady catalogue.now (now.place + 1) slots.old }
     ensures does { (l : Answers) (c : Tracked) (m : CutMessage) →
         IsAtOctet catalogue.now l slots.old c m now → length m.payload ≡ size m.header →
-        DoesEffect catalogue.now l one_if result (O.log out.old) (O.log out.new) slots.new
+        DoesEffect catalogue.now l count_one_if result (O.log out.old) (O.log out.new) slots.new
         (effects (message_reader catalogue.now l) c
         (events_at_end (before_with catalogue.now l c) m)) None }
     ensures room { KeepsRoom slots.old slots.new }
 {
-    if is_short(&now.header) {
+    if is_too_short_for_id(&now.header) {
         let faulted = slots.fault_message(now.number, FramingFault::Short, now.place, out);
         slots.set_no_owner();
         return faulted;
     }
-    if is_followed(&now.header) {
+    if is_continued(&now.header) {
         slots.set_no_owner();
         return Ok(false);
     }
@@ -358,17 +369,18 @@ pub fn at_end<O: Out>(
 
 /// Whether an octet is the last one of a request id. A fragmented message of GIOP 1.1 has none there.
 fn ends_request_id(now: Current) -> bool
-    ensures { result ≡ ((now.payload_count == 4) && not (is_old now.header)) }
+    ensures { result ≡ ((now.payload_count == 4) && not (is_fragmented_1_1 now.header)) }
 {
-    now.payload_count == 4 && !is_old(&now.header)
+    now.payload_count == 4 && !is_fragmented_1_1(&now.header)
 }
 
 /// Does what an octet does if it is the last one of a request id. Returns whether a message is faulted.
 fn at_fourth_octet<O: Out>(slots: &mut Slots, now: Current, out: &mut O) -> Result<bool, OutFault>
     ensures does { (C : Table) (l : Answers) (c : Tracked) (m : CutMessage) →
         IsAfterTake C l slots.old c m now → 0 < length m.payload →
-        DoesEffect C l one_if result (O.log out.old) (O.log out.new) slots.new
-        (effects (message_reader C l) c (name_events slots.old.slots.most (before_with C l c) m))
+        DoesEffect C l count_one_if result (O.log out.old) (O.log out.new) slots.new
+        (effects (message_reader C l) c (events_if_at_name slots.old.slots.most
+        (before_with C l c) m))
         (owner_of_next (before_with C l c) m) }
     ensures room { KeepsRoom slots.old slots.new }
 {
@@ -390,30 +402,31 @@ pub fn at_last_octet<O: Out>(
     requires ready { AreReady catalogue.now (now.place + 1) slots.old }
     ensures does { (l : Answers) (c : Tracked) (m : CutMessage) →
         IsAtOctet catalogue.now l slots.old c m now → length m.payload ≡ now.payload_count →
-        DoesEffect catalogue.now l one_if result (O.log out.old) (O.log out.new) slots.new
+        DoesEffect catalogue.now l count_one_if result (O.log out.old) (O.log out.new) slots.new
         (effects (message_reader catalogue.now l) c
-        (end_events (before_with catalogue.now l c) m))
+        (events_if_at_end (before_with catalogue.now l c) m))
         (owner_after (before_with catalogue.now l c) m) }
     ensures ready { AreReady catalogue.now (now.place + 1) slots.new }
     ensures most { slots.new.slots.most ≡ slots.old.slots.most }
 {
     if now.payload_count == size_of(&now.header) {
-        return at_end(slots, catalogue, now, out);
+        return at_message_end(slots, catalogue, now, out);
     }
     Ok(false)
 }
 
 /// How many messages an octet faults, by the three parts of what it does.
-pub fn fault_count(a: bool, b: bool, c: bool) -> u8
-    ensures value { result ≡ (if a then 1 else 0) + ((if b then 1 else 0) + (if c then 1 else 0)) }
+pub fn count_faults(at_take: bool, at_id: bool, at_end: bool) -> u8
+    ensures value { result ≡ (if at_take then 1 else 0)
+        + ((if at_id then 1 else 0) + (if at_end then 1 else 0)) }
     ensures few { result ≤ 3 }
 {
-    u8::from(a) + (u8::from(b) + u8::from(c))
+    u8::from(at_take) + (u8::from(at_id) + u8::from(at_end))
 }
 
 /// Takes octets of a message's payload, up to the first one after which the correspondent is due. Those before the last
 /// only add to the message's contents. Returns how many it took, and how many messages they fault.
-pub fn octets<O: Out, Q: Correspondent>(
+pub fn take_payload<O: Out, Q: Correspondent>(
     slots: &mut Slots,
     catalogue: &Catalogue,
     correspondent: &mut Q,
@@ -429,14 +442,14 @@ pub fn octets<O: Out, Q: Correspondent>(
     ensures does { (a : Answers) (c : Tracked) (m : CutMessage) →
         SlotsRepresent catalogue.now a slots.old c
         (owner_of_next (before_with catalogue.now a c) m) →
-        Rising c.still_open →
+        NumbersRise c.still_open →
         AgreesAtEnds Q.answer Q.notified catalogue.now (Q.state correspondent.old) a
         (owner_header_ends c (owner_of_next (before_with catalogue.now a c) m) octets.now) →
         TakesFront (λ r. r.0) (StaysUndue Q.due Q.notified catalogue.now
         (Q.state correspondent.old)
         (owner_header_ends c (owner_of_next (before_with catalogue.now a c) m)))
         (λ xs. (q : List ℕ) (x : ℕ) → xs ≡ q ++ x ∷ [] →
-        (let now = further before (suc (length q)) in
+        (let now = current_after before (suc (length q)) in
         IsBeforeOctets catalogue.now a slots.old c m now q x →
         (let effect = octets_effect catalogue.now a slots.old.slots.most c m now q x in
         DoesEffect catalogue.now a (λ r. r.1) result (O.log out.old) (O.log out.new) slots.new
@@ -460,10 +473,10 @@ pub fn octets<O: Out, Q: Correspondent>(
     ensures most { slots.new.slots.most ≡ slots.old.slots.most }
 {
     let (count, taken) = slots.take(catalogue, correspondent, octets, before.place, out)?;
-    let now = before.further(count);
+    let now = before.after_octets(count);
     let named = at_fourth_octet(slots, now, out)?;
     let ended = at_last_octet(slots, catalogue, now, out)?;
-    Ok((count, fault_count(taken, named, ended)))
+    Ok((count, count_faults(taken, named, ended)))
 }
 
 /// Begins a message, and faults it if its header alone is refused. Returns whether it is faulted.
@@ -477,14 +490,14 @@ fn begin_message<O: Out>(
     requires ready { AreReady catalogue.now now.place slots.old }
     ensures does { (l : Answers) (c : Tracked) (who : Option MessageKey) (m : CutMessage) →
         IsBeforeMessage catalogue.now l slots.old c who m now →
-        DoesEffect catalogue.now l one_if result (O.log out.old) (O.log out.new) slots.new
+        DoesEffect catalogue.now l count_one_if result (O.log out.old) (O.log out.new) slots.new
         (effects (message_reader catalogue.now l) c (events_at_header m)) (Some (message_key m)) }
     ensures ready { OnOk result (AreReady catalogue.now (now.place + 1) slots.new) }
     ensures most { slots.new.slots.most ≡ slots.old.slots.most }
 {
     start_line(out, now.number, &now.header)?;
     slots.begin(catalogue, now.number, now.header);
-    match refused(&now.header) {
+    match header_fault(&now.header) {
         Some(fault) => slots.fault_message(now.number, fault, now.place, out),
         None => Ok(false),
     }
@@ -492,25 +505,26 @@ fn begin_message<O: Out>(
 
 /// Does what the last octet of a header does to the open messages. Only messages of GIOP 1.1 with fragments, and their
 /// Fragments, have their place among them from there on. Returns whether a message is faulted.
-fn named_by_header<O: Out>(slots: &mut Slots, now: Current, out: &mut O) -> Result<bool, OutFault>
+fn at_header_1_1<O: Out>(slots: &mut Slots, now: Current, out: &mut O) -> Result<bool, OutFault>
     ensures does { (C : Table) (l : Answers) (c : Tracked) (m : CutMessage) →
         IsAtHeader C l slots.old c m now →
-        DoesEffect C l one_if result (O.log out.old) (O.log out.new) slots.new
-        (effects (message_reader C l) c (name_events slots.old.slots.most (before_with C l c) m))
+        DoesEffect C l count_one_if result (O.log out.old) (O.log out.new) slots.new
+        (effects (message_reader C l) c (events_if_at_name slots.old.slots.most
+        (before_with C l c) m))
         (owner_of_next (before_with C l c) m) }
     ensures room { KeepsRoom slots.old slots.new }
 {
-    if is_old_opener(&now.header) {
-        return open_message(slots, now, None, out);
+    if is_opener_1_1(&now.header) {
+        return open_or_fault(slots, now, None, out);
     }
-    if is_old_fragment(&now.header) {
+    if is_fragment_1_1(&now.header) {
         return join_fragment(slots, now, None, out);
     }
     Ok(false)
 }
 
 /// Takes the last octet of a header. Returns how many messages it faults.
-pub fn header<O: Out>(
+pub fn take_header_end<O: Out>(
     slots: &mut Slots,
     catalogue: &Catalogue,
     now: Current,
@@ -520,14 +534,14 @@ pub fn header<O: Out>(
     ensures does { (l : Answers) (c : Tracked) (who : Option MessageKey) (m : CutMessage) →
         IsBeforeMessage catalogue.now l slots.old c who m now →
         (let effect = octet_effect catalogue.now l slots.old.slots.most c m in
-        DoesEffect catalogue.now l all result (O.log out.old) (O.log out.new) slots.new
+        DoesEffect catalogue.now l count_all result (O.log out.old) (O.log out.new) slots.new
         effect (owner_after (before_with catalogue.now l effect.tracked) m)) }
     ensures few { IfOk result (λ faults. faults ≤ 3) }
     ensures ready { OnOk result (AreReady catalogue.now (now.place + 1) slots.new) }
     ensures most { slots.new.slots.most ≡ slots.old.slots.most }
 {
     let refused = begin_message(slots, catalogue, now, out)?;
-    let named = named_by_header(slots, now, out)?;
+    let named = at_header_1_1(slots, now, out)?;
     let ended = at_last_octet(slots, catalogue, now, out)?;
-    Ok(fault_count(refused, named, ended))
+    Ok(count_faults(refused, named, ended))
 }

@@ -2,11 +2,11 @@
 
 ghost use Rattle.std.specs.Prelude.{◌≡◌, ◌<◌, ◌≤◌, ◌++◌, ◌+◌, Err, ℕ, List, [], true, false, length, take, drop, IfOk, IfErr, OnOk, OnErr};
 ghost use Rattle.std.specs.List.{concat};
-ghost use Rattle.giop_print.specs.Output.{counted};
+ghost use Rattle.giop_print.specs.Output.{saturating_next};
 ghost use Rattle.giop_sig.specs.HeaderTypes.{IsTable};
 ghost use Rattle.giop_sig.specs.Table.{Table};
 ghost use Rattle.giop_sig.specs.Trees.{catalogue_depth};
-ghost use Rattle.giop_checkpoint.specs.Refusals.{IsOurs};
+ghost use Rattle.giop_checkpoint.specs.Refusals.{PassesUpToCounts};
 ghost use Rattle.giop_message.specs.Signatures.{RequestTable, Answers};
 ghost use Rattle.giop_message.specs.HeaderEnds.{after_ends};
 ghost use Rattle.giop_stream.specs.HeaderEndsOfStream.{header_ends_from};
@@ -17,12 +17,12 @@ ghost use Rattle.giop_stream.specs.AnswersAgree.{AgreesOver};
 ghost use Rattle.giop_message.specs.DueOctets.{TakesFront};
 ghost use Rattle.giop_stream.specs.DueOctets.{is_due_after, begun_in};
 ghost use Rattle.giop_stream.specs.Stream.{text, closing, final};
-ghost use Rattle.giop_stream.specs.EngineHolds.{AreOf, Holds, HoldsBy, StopWrites, Leaves, added, rules_of, rules_with, status_of};
+ghost use Rattle.giop_stream.specs.EngineHolds.{IsRequestTableOf, Holds, HoldsBy, StopWrites, Leaves, added, rules_of, rules_with, status_of};
 ghost use Rattle.giop_stream.specs.Pieces.{fed, remaining, whole_text};
 ghost use Rattle.giop_stream.specs.Checkpoint.{counts_of, checkpoint_limit, Allows, IsRefused, OrNoMemory, Saves, Spells};
 
 use crate::fault::{LoadFault, NewError, Stop};
-use crate::framing::{Framing, joins};
+use crate::framing::{Framing, joins_1_1};
 use crate::status::{Fed, Status, Totals};
 use crate::{loading, saving};
 use giop_message::Correspondent;
@@ -59,9 +59,9 @@ impl<'a> Model for Engine<'a> {
 
     ghost use Rattle.std.specs.Prelude.{◌+◌};
     ghost use Rattle.giop_stream.specs.SlotsRepresent.{AreReady};
-    ghost use Rattle.giop_stream.specs.EngineHolds.{AreOf};
+    ghost use Rattle.giop_stream.specs.EngineHolds.{IsRequestTableOf};
 
-    ghost invariant = { λ e. AreOf e.catalogue.now e.requests.now
+    ghost invariant = { λ e. IsRequestTableOf e.catalogue.now e.requests.now
         × AreReady e.catalogue.now (e.framing.totals.octets + 1) e.framing.slots };
 }
 
@@ -74,14 +74,14 @@ impl<'a> Engine<'a> {
         requests: &'a Requests,
         most: u32,
     ) -> Result<Engine<'a>, NewError>
-        requires of { AreOf catalogue.now requests.now }
+        requires of { IsRequestTableOf catalogue.now requests.now }
         requires range { (1 ≤ most) × (most ≤ most_open) }
         ensures holds { IfOk result (λ e. Holds e []) }
         ensures table { IfOk result (λ e. e.table ≡ catalogue.now) }
         ensures request_table { IfOk result (λ e. e.request_table ≡ requests.now) }
         ensures most { IfOk result (λ e. e.most ≡ most) }
     {
-        let Ok(framing) = Framing::new(alloc, most as usize, joins(catalogue)) else {
+        let Ok(framing) = Framing::new(alloc, most as usize, joins_1_1(catalogue)) else {
             return Err(NewError::OutOfMemory);
         };
         Ok(Engine {
@@ -101,7 +101,7 @@ impl<'a> Engine<'a> {
         requests: &'a Requests,
         octets: &[u8],
     ) -> Result<Engine<'a>, LoadFault>
-        requires of { AreOf catalogue.now requests.now }
+        requires of { IsRequestTableOf catalogue.now requests.now }
         // It holds the stream that the octets are the checkpoint of, with the same number of open messages allowed.
         ensures again { (n : ℕ) (p : List ℕ) → Spells octets.now catalogue.now requests.now n p →
             OrNoMemory result (λ e. (e.most ≡ n) × Holds e p) }
@@ -111,12 +111,13 @@ impl<'a> Engine<'a> {
         // The octets are refused by the first check that fails, or because there isn't enough memory.
         ensures refused { IfErr result (λ why.
             IsRefused (counts_of catalogue.now requests.now) octets.now why) }
-        ensures ours { IfOk result (λ e. IsOurs (counts_of catalogue.now requests.now) octets.now) }
+        ensures ours { IfOk result (λ e. PassesUpToCounts
+            (counts_of catalogue.now requests.now) octets.now) }
         ensures sound { IfOk result (λ e. e.failed ≡ false) }
         ensures table { IfOk result (λ e. e.table ≡ catalogue.now) }
         ensures request_table { IfOk result (λ e. e.request_table ≡ requests.now) }
     {
-        match loading::read(alloc, catalogue, requests, octets) {
+        match loading::read_checkpoint(alloc, catalogue, requests, octets) {
             Ok(framing) => Ok(Engine {
                 catalogue,
                 requests,
@@ -185,7 +186,7 @@ impl<'a> Engine<'a> {
         // If the engine holds a stream by any answers, the call fails only if a put fails. If it doesn't fail, no put has
         // failed.
         ensures cause { (a : Answers) (p : List ℕ) → HoldsBy self.old a p →
-            OnErr result ((O.log out.new).failures ≡ counted (O.log out.old).failures)
+            OnErr result ((O.log out.new).failures ≡ saturating_next (O.log out.old).failures)
             × OnOk result ((O.log out.new).failures ≡ (O.log out.old).failures) }
         // The types, the requests and the limit of open messages stay the same.
         ensures same { (self.new.table ≡ self.old.table)
@@ -198,7 +199,7 @@ impl<'a> Engine<'a> {
         let (totals, stopped) = (self.framing.totals, self.framing.stopped);
         match self
             .framing
-            .steps(self.catalogue, correspondent, piece, out)
+            .take_piece(self.catalogue, correspondent, piece, out)
         {
             Ok(count) => Ok(Fed {
                 count,
@@ -207,7 +208,8 @@ impl<'a> Engine<'a> {
             }),
             Err(fault) => {
                 self.failed = true;
-                self.framing.clear(totals, stopped, joins(self.catalogue));
+                self.framing
+                    .clear(totals, stopped, joins_1_1(self.catalogue));
                 Err(Stop::Out(fault))
             }
         }
@@ -252,7 +254,7 @@ impl<'a> Engine<'a> {
             × (self.new.request_table ≡ self.old.request_table) }
         ensures most { self.new.most ≡ self.old.most }
     {
-        self.framing.restart(joins(self.catalogue));
+        self.framing.restart(joins_1_1(self.catalogue));
         self.failed = false;
     }
 
@@ -314,13 +316,13 @@ impl<'a> Engine<'a> {
         ensures sound { result ≡ Err Stop.Failed → self.now.failed ≡ true }
         // If the engine hasn't failed, the call fails only if a put fails.
         ensures cause { self.now.failed ≡ false →
-            OnErr result ((O.log out.new).failures ≡ counted (O.log out.old).failures) }
+            OnErr result ((O.log out.new).failures ≡ saturating_next (O.log out.old).failures) }
     {
         if self.failed {
             return Err(Stop::Failed);
         }
         self.catalogue.laws();
-        match saving::write(&self.framing, self.catalogue, self.requests, out) {
+        match saving::write_checkpoint(&self.framing, self.catalogue, self.requests, out) {
             Ok(count) => Ok(count),
             Err(fault) => Err(Stop::Out(fault)),
         }

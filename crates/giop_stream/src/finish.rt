@@ -64,7 +64,7 @@ impl Framing {
     }
 
     /// Writes the line that says that the stream ends inside a message or a header, if it does.
-    fn truncation<O: Out>(&self, out: &mut O) -> Result<(), OutFault>
+    fn write_truncated_line<O: Out>(&self, out: &mut O) -> Result<(), OutFault>
         ensures { (C : Table) (l : Answers) (s : State) → Shows C l (framing_view self.now) s →
             Writes result (O.log out.old) (O.log out.new)
             (if one.is_cut_short s then truncated_line s.totals.octets else []) }
@@ -76,10 +76,10 @@ impl Framing {
     }
 
     /// Writes the line of the current message if it is unfinished, unless it is open or a Fragment.
-    fn own_unfinished<O: Out>(&self, out: &mut O) -> Result<(), OutFault>
+    fn write_current_unfinished<O: Out>(&self, out: &mut O) -> Result<(), OutFault>
         ensures { (C : Table) (l : Answers) (s : State) → Shows C l (framing_view self.now) s →
             Writes result (O.log out.old) (O.log out.new)
-            (flat_map unfinished_line (one.left_current s.tracked s.owner)) }
+            (flat_map unfinished_line (one.unfinished_current s.tracked s.owner)) }
     {
         let Some(message) = self.slots.current() else {
             return Ok(());
@@ -91,25 +91,25 @@ impl Framing {
     }
 
     /// Writes the lines of the messages that have neither ended nor been faulted, in the order of their numbers.
-    fn unfinished<O: Out>(&self, out: &mut O) -> Result<(), OutFault>
+    fn write_unfinished<O: Out>(&self, out: &mut O) -> Result<(), OutFault>
         ensures { (C : Table) (l : Answers) (s : State) → Shows C l (framing_view self.now) s →
             Writes result (O.log out.old) (O.log out.new)
-            (flat_map unfinished_line (one.left_over s)) }
+            (flat_map unfinished_line (one.unfinished_numbers s)) }
     {
-        self.slots.unfinished(out)?;
-        self.own_unfinished(out)
+        self.slots.write_unfinished(out)?;
+        self.write_current_unfinished(out)
     }
 
     /// Writes what follows the line of a truncated end.
     #[tactic(auto, using(giop_print::proofs::Writing::writes_then, giop_print::proofs::Writing::writes_err))]
-    fn ending<O: Out>(&self, out: &mut O) -> Result<(), OutFault>
+    fn write_unfinished_and_totals<O: Out>(&self, out: &mut O) -> Result<(), OutFault>
         ensures { (C : Table) (l : Answers) (s : State) → Shows C l (framing_view self.now) s →
             (let t = one.final_totals s in
             Writes result (O.log out.old) (O.log out.new)
-            (flat_map unfinished_line (one.left_over s)
+            (flat_map unfinished_line (one.unfinished_numbers s)
             ++ total_line t.messages t.faults t.octets)) }
     {
-        self.unfinished(out)?;
+        self.write_unfinished(out)?;
         let totals = self.final_totals();
         total_line(out, totals.messages, totals.faults, totals.octets)
     }
@@ -118,9 +118,9 @@ impl Framing {
     #[tactic(auto, using(giop_print::proofs::Writing::writes_then, giop_print::proofs::Writing::writes_err))]
     pub fn finish<O: Out>(&self, out: &mut O) -> Result<(), OutFault>
         ensures { (C : Table) (l : Answers) (s : State) → Shows C l (framing_view self.now) s →
-            Writes result (O.log out.old) (O.log out.new) (one.finish s) }
+            Writes result (O.log out.old) (O.log out.new) (one.text_at_finish s) }
     {
-        self.truncation(out)?;
-        self.ending(out)
+        self.write_truncated_line(out)?;
+        self.write_unfinished_and_totals(out)
     }
 }

@@ -9,15 +9,15 @@ ghost use Rattle.giop_stream.specs.Framing.{CutMessage};
 ghost use Rattle.giop_stream.specs.Effects.{with_octet};
 ghost use Rattle.giop_stream.specs.OpenSlots.{Tracked};
 ghost use Rattle.giop_stream.specs.SlotsRepresent.{AreReady};
-ghost use Rattle.giop_stream.specs.DoesEffect.{DoesEffect, all};
+ghost use Rattle.giop_stream.specs.DoesEffect.{DoesEffect, count_all};
 ghost use Rattle.giop_stream.specs.PayloadOwner.{before_with, owner_after};
 ghost use Rattle.giop_stream.specs.Continuation.{IsOpenAt, IsContinuation, IsBeforeContinuation, continuation_effect};
 
 use crate::current::Current;
-use crate::dispatch::{at_last_octet, continue_message, fault_count};
+use crate::dispatch::{at_last_octet, continue_message, count_faults};
 use crate::framing::{Framing, LIMIT};
 use crate::header::{number_of, size_of};
-use crate::kinds::is_fragment;
+use crate::kinds::is_fragment_1_2;
 use crate::lines::start_line;
 use crate::slots::Slots;
 use arrayvec::ArrayVec;
@@ -45,7 +45,7 @@ fn join_fragment<O: Out>(
     ensures does { (l : Answers) (c : Tracked) (m : CutMessage) (x : ℕ) →
         IsBeforeContinuation catalogue.now l slots.old c m now x found →
         (let effect = continuation_effect catalogue.now l slots.old.slots.most c m x in
-        DoesEffect catalogue.now l all result (O.log out.old) (O.log out.new) slots.new
+        DoesEffect catalogue.now l count_all result (O.log out.old) (O.log out.new) slots.new
         effect (owner_after (before_with catalogue.now l effect.tracked) (with_octet m x))) }
     ensures few { IfOk result (λ faults. faults ≤ 3) }
     ensures ready { OnOk result (AreReady catalogue.now (now.place + 1) slots.new) }
@@ -55,7 +55,7 @@ fn join_fragment<O: Out>(
     request_id_line(out, now.number, found.id)?;
     let faulted = continue_message(slots, found.index, now, out)?;
     let ended = at_last_octet(slots, catalogue, now, out)?;
-    Ok(fault_count(false, faulted, ended))
+    Ok(count_faults(false, faulted, ended))
 }
 
 impl Framing {
@@ -88,7 +88,7 @@ impl Framing {
             .try_extend_from_slice(self.header.as_slice())
             .unwrap();
         header.push(*last);
-        if !is_fragment(header.as_slice()) || size_of(header.as_slice()) < 4 {
+        if !is_fragment_1_2(header.as_slice()) || size_of(header.as_slice()) < 4 {
             return None;
         }
         let id = number_of(order_of(header.as_slice()), *a, *b, *c, *d);
@@ -114,7 +114,7 @@ impl Framing {
             IsReached catalogue.now a self.old.slots.slots.most s →
             Shows catalogue.now a (framing_view self.old) s →
             Does catalogue.now a result (O.log out.old) (O.log out.new) (framing_view self.new)
-            (one.runs (rules_by catalogue.now a self.old.slots.slots.most) s octets.now) }
+            (one.run_step (rules_by catalogue.now a self.old.slots.slots.most) s octets.now) }
         ensures ready { OnOk result
             (AreReady catalogue.now (self.new.totals.octets + 1) self.new.slots) }
         ensures most { self.new.slots.slots.most ≡ self.old.slots.slots.most }
@@ -126,7 +126,7 @@ impl Framing {
         let now = self.current();
         let faults = join_fragment(&mut self.slots, catalogue, found, now, out)?;
         self.totals.faults += u64::from(faults);
-        self.end_message(size_of(&now.header));
+        self.clear_if_complete(size_of(&now.header));
         Ok(())
     }
 }

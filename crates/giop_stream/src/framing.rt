@@ -7,7 +7,7 @@ ghost use Rattle.giop_stream.specs.Rules.{joins_by, most_open};
 use crate::current::Current;
 use crate::dispatch;
 use crate::fault::StreamFault;
-use crate::header::{size_of, wrong_in};
+use crate::header::{last_octet_fault, size_of};
 use crate::lines::stream_fault_line;
 use crate::slots::Slots;
 use crate::status::Totals;
@@ -21,7 +21,7 @@ use std::alloc::{AllocError, Global};
 pub const LIMIT: u64 = 281_474_976_710_656;
 
 /// Whether Fragments of GIOP 1.1 are joined. It depends on the version of the signature file.
-pub fn joins(catalogue: &Catalogue) -> bool
+pub fn joins_1_1(catalogue: &Catalogue) -> bool
     ensures { result ≡ joins_by catalogue.now }
 {
     catalogue.version() >= 3
@@ -59,7 +59,7 @@ impl Framing {
     ghost use Rattle.giop_message.specs.Signatures.{Answers};
     ghost use Rattle.giop_stream.specs.Rules.{rules_by};
     ghost use Rattle.giop_message.specs.Headers.{size};
-    ghost use Rattle.giop_stream.specs.HeaderOctets.{wrong};
+    ghost use Rattle.giop_stream.specs.HeaderOctets.{last_octet_fault};
     ghost use Rattle.giop_stream.specs.Text.{stop_text};
     ghost use Rattle.giop_stream.specs.SlotsRepresent.{AreReady, IsBare};
     ghost use Rattle.giop_stream.specs.EngineView.{FramingView};
@@ -68,7 +68,7 @@ impl Framing {
     ghost use Rattle.giop_stream.specs.FramingView.{framing_view};
     ghost use Rattle.giop_stream.specs.ViewOfState.{Shows, IsReached, Does};
     ghost use Rattle.giop_message.specs.MessageState.{AreKnown};
-    ghost use Rattle.giop_stream.specs.FramingSteps.{held_on, stop, end_message};
+    ghost use Rattle.giop_stream.specs.FramingSteps.{with_header_octet, stopped_with, cleared_if_complete};
     ghost use Rattle.giop_stream.specs.Framing.{cut, lacking};
     ghost use Rattle.giop_stream.specs.HeaderEndsOfStream.{current_header_ends, header_ends_at};
     ghost use Rattle.giop_message.specs.HeaderEnds.{AgreesAtEnds, after_ends};
@@ -80,7 +80,7 @@ impl Framing {
         requires some { 1 ≤ most }
         ensures most { IfOk result (λ f. f.slots.slots.most ≡ most) }
         ensures shows { IfOk result (λ f. (C : Table) (l : Answers) (n : ℕ) →
-            joins ≡ joins_by C → Shows C l (framing_view f) (one.fresh (rules_by C l n))) }
+            joins ≡ joins_by C → Shows C l (framing_view f) (one.fresh_state (rules_by C l n))) }
         ensures ready { IfOk result (λ f. (C : Table) →
             AreReady C (f.totals.octets + 1) f.slots) }
     {
@@ -96,7 +96,7 @@ impl Framing {
     /// Goes back to the state before the first octet, and keeps the memory.
     pub fn restart(&mut self, joins: bool)
         ensures shows { (C : Table) (l : Answers) (n : ℕ) → joins ≡ joins_by C →
-            Shows C l (framing_view self.new) (one.fresh (rules_by C l n)) }
+            Shows C l (framing_view self.new) (one.fresh_state (rules_by C l n)) }
         ensures ready { (C : Table) → AreReady C (self.new.totals.octets + 1) self.new.slots }
         ensures most { self.new.slots.slots.most ≡ self.old.slots.slots.most }
     {
@@ -126,13 +126,18 @@ impl Framing {
     }
 
     /// Ends the reading with a stream fault at the octet of this place. No header and no payload is held after that.
-    #[tactic(auto, unfolding(crate::specs::FramingSteps::stop))]
-    fn stop<O: Out>(&mut self, fault: StreamFault, place: u64, out: &mut O) -> Result<(), OutFault>
+    #[tactic(auto, unfolding(crate::specs::FramingSteps::stopped_with))]
+    fn stop_at_fault<O: Out>(
+        &mut self,
+        fault: StreamFault,
+        place: u64,
+        out: &mut O,
+    ) -> Result<(), OutFault>
         requires place { self.old.totals.octets ≤ place }
         requires limit { place ≤ 2 ^ 48 + 1 }
         requires faults { self.old.totals.faults < 3 * place }
         ensures state { OnOk result (framing_view self.new
-            ≡ stop (framing_view self.old) fault place) }
+            ≡ stopped_with (framing_view self.old) fault place) }
         ensures text { Writes result (O.log out.old) (O.log out.new) (stop_text fault place) }
         ensures most { self.new.slots.slots.most ≡ self.old.slots.slots.most }
     {
@@ -145,13 +150,14 @@ impl Framing {
     }
 
     /// Ends a message after its last octet, if this was its last: the next octet is then the first one of a header.
-    #[tactic(auto, unfolding(crate::specs::FramingSteps::end_message))]
-    pub fn end_message(&mut self, size: u32)
-        ensures state { framing_view self.new ≡ end_message (framing_view self.old) size }
+    #[tactic(auto, unfolding(crate::specs::FramingSteps::cleared_if_complete))]
+    pub fn clear_if_complete(&mut self, size: u32)
+        ensures state { framing_view self.new ≡ cleared_if_complete (framing_view self.old) size }
         ensures most { self.new.slots.slots.most ≡ self.old.slots.slots.most }
     {
         if self.payload_count == size {
-            self.header.clear();
+            // To clear it, the program would look at its length.
+            self.header = ArrayVec::new();
             self.payload_count = 0;
         }
     }
@@ -165,7 +171,8 @@ impl Framing {
         ensures payload_count { result.payload_count ≡ self.now.payload_count }
     {
         let mut header = [0; 12];
-        header.copy_from_slice(self.header.as_slice());
+        // Its length is written here, so that the program copies 12 octets without a look at how many it has.
+        header.copy_from_slice(&self.header.as_slice()[..12]);
         Current {
             number: self.totals.messages,
             header,
@@ -194,9 +201,13 @@ impl Framing {
     }
 
     /// Begins a message at the last octet of its header.
-    fn begin<O: Out>(&mut self, catalogue: &Catalogue, out: &mut O) -> Result<(), OutFault>
+    fn begin_at_header_end<O: Out>(
+        &mut self,
+        catalogue: &Catalogue,
+        out: &mut O,
+    ) -> Result<(), OutFault>
         requires full { length self.old.header.items ≡ 12 }
-        requires right { wrong self.old.header.items ≡ None }
+        requires right { last_octet_fault self.old.header.items ≡ None }
         requires running { self.old.stopped ≡ None }
         requires messages { self.old.totals.messages < self.old.totals.octets }
         requires faults { self.old.totals.faults + 3 ≤ 3 * self.old.totals.octets }
@@ -204,7 +215,7 @@ impl Framing {
         // It does the step of the octet that was added to the header last.
         ensures does { (l : Answers) (s : State) (m : FramingView) (x : ℕ) →
             IsReached catalogue.now l self.old.slots.slots.most s →
-            Shows catalogue.now l m s → framing_view self.old ≡ held_on m x →
+            Shows catalogue.now l m s → framing_view self.old ≡ with_header_octet m x →
             Does catalogue.now l result (O.log out.old) (O.log out.new) (framing_view self.new)
             (one.step (rules_by catalogue.now l self.old.slots.slots.most) s x) }
         ensures ready { OnOk result
@@ -213,9 +224,9 @@ impl Framing {
     {
         self.totals.messages += 1;
         let now = self.current();
-        let faults = dispatch::header(&mut self.slots, catalogue, now, out)?;
+        let faults = dispatch::take_header_end(&mut self.slots, catalogue, now, out)?;
         self.totals.faults += u64::from(faults);
-        self.end_message(size_of(&now.header));
+        self.clear_if_complete(size_of(&now.header));
         Ok(())
     }
 
@@ -241,11 +252,11 @@ impl Framing {
     {
         self.totals.octets += 1;
         self.header.push(octet);
-        if let Some(fault) = wrong_in(self.header.as_slice()) {
-            return self.stop(fault, self.totals.octets, out);
+        if let Some(fault) = last_octet_fault(self.header.as_slice()) {
+            return self.stop_at_fault(fault, self.totals.octets, out);
         }
         if self.header.len() == 12 {
-            return self.begin(catalogue, out);
+            return self.begin_at_header_end(catalogue, out);
         }
         Ok(())
     }
@@ -281,7 +292,7 @@ impl Framing {
             (rules_by catalogue.now a self.old.slots.slots.most) r.stream (cut r.stream).current))
             (λ xs. Does catalogue.now a result (O.log out.old) (O.log out.new)
             (framing_view self.new)
-            (one.runs (rules_by catalogue.now a self.old.slots.slots.most) s xs))
+            (one.run_step (rules_by catalogue.now a self.old.slots.slots.most) s xs))
             result octets.now }
         ensures told { IfOk result (λ n. (a : Answers) (s : State)
             (r : IsReached catalogue.now a self.old.slots.slots.most s) →
@@ -302,7 +313,7 @@ impl Framing {
         ensures most { self.new.slots.slots.most ≡ self.old.slots.slots.most }
     {
         let before = self.current();
-        let (count, faults) = dispatch::octets(
+        let (count, faults) = dispatch::take_payload(
             &mut self.slots,
             catalogue,
             correspondent,
@@ -310,11 +321,11 @@ impl Framing {
             before,
             out,
         )?;
-        let now = before.further(count);
+        let now = before.after_octets(count);
         self.totals.octets = now.place;
         self.payload_count = now.payload_count;
         self.totals.faults += u64::from(faults);
-        self.end_message(size_of(&now.header));
+        self.clear_if_complete(size_of(&now.header));
         Ok(count)
     }
 
@@ -355,7 +366,7 @@ impl Framing {
             return Ok(());
         }
         if LIMIT <= self.totals.octets {
-            return self.stop(StreamFault::StreamLimit, self.totals.octets + 1, out);
+            return self.stop_at_fault(StreamFault::StreamLimit, self.totals.octets + 1, out);
         }
         if self.header.len() < 12 {
             self.header_octet(catalogue, octet, out)

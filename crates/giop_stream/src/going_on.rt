@@ -4,7 +4,7 @@ ghost use Rattle.std.specs.Prelude.{◌≡◌, ◌≢◌, ◌≤◌, ◌++◌, f
 ghost use Rattle.giop_sig.specs.Trees.{catalogue_depth};
 ghost use Rattle.giop_stream.specs.Rules.{rules};
 ghost use Rattle.giop_stream.specs.Stream.{final};
-ghost use Rattle.giop_stream.specs.EngineHolds.{AreOf, Holds, StopWrites, rules_of};
+ghost use Rattle.giop_stream.specs.EngineHolds.{IsRequestTableOf, Holds, StopWrites, rules_of};
 ghost use Rattle.giop_stream.specs.Pieces.{remaining};
 ghost use Rattle.giop_stream.specs.Checkpoint.{counts_of, checkpoint_limit, IsRefused, OrNoMemory, Spells};
 
@@ -25,7 +25,7 @@ pub fn go_on<O: Out>(
     rest: &[u8],
     out: &mut O,
 ) -> Result<Result<Totals, Stop>, LoadFault>
-    requires of { AreOf catalogue.now requests.now }
+    requires of { IsRequestTableOf catalogue.now requests.now }
     // What is written is what remains of the stream's text, after the front that the octets are the checkpoint of, and the
     // closing.
     ensures text { (n : ℕ) (p : List ℕ) → Spells octets.now catalogue.now requests.now n p →

@@ -1,17 +1,17 @@
 //! The fields of a message header, and the octets that the header may have (GIOP Message Formats, GIOP Message Header).
 
 ghost use Rattle.std.specs.Prelude.{◌≡◌, ◌≤◌, ◌<◌, ◌+◌, ℕ, List, [], ◌∷◌, length, take, None, IsTrue};
-ghost use Rattle.giop_cdr.specs.Numbers.{little, num};
+ghost use Rattle.giop_cdr.specs.Numbers.{little_endian_number, num};
 ghost use Rattle.giop_message.specs.Headers.{has_more, size};
-ghost use Rattle.giop_stream.specs.HeaderOctets.{wrong};
+ghost use Rattle.giop_stream.specs.HeaderOctets.{last_octet_fault};
 
 use crate::fault::StreamFault;
 use giop_cdr::Order;
 use giop_message::order_of;
 
 /// The number that four octets are, the least significant octet first.
-fn lightest_first(a: u8, b: u8, c: u8, d: u8) -> u32
-    ensures { result ≡ little (a ∷ b ∷ c ∷ d ∷ []) }
+fn little_endian_number(a: u8, b: u8, c: u8, d: u8) -> u32
+    ensures { result ≡ little_endian_number (a ∷ b ∷ c ∷ d ∷ []) }
 {
     u32::from(a) + 256 * (u32::from(b) + 256 * (u32::from(c) + 256 * u32::from(d)))
 }
@@ -22,14 +22,14 @@ pub fn number_of(order: Order, a: u8, b: u8, c: u8, d: u8) -> u32
     ensures { result ≡ num order (a ∷ b ∷ c ∷ d ∷ []) }
 {
     match order {
-        Order::Big => lightest_first(d, c, b, a),
-        Order::Little => lightest_first(a, b, c, d),
+        Order::Big => little_endian_number(d, c, b, a),
+        Order::Little => little_endian_number(a, b, c, d),
     }
 }
 
 /// Whether more fragments follow.
 #[tactic(auto, unfolding(giop_message::specs::Headers::has_more, giop_message::specs::Headers::minor))]
-pub fn more_of(header: &[u8]) -> bool
+pub fn has_more(header: &[u8]) -> bool
     requires { length header.now ≡ 12 }
     ensures { result ≡ has_more header.now }
 {
@@ -51,10 +51,10 @@ pub fn size_of(header: &[u8]) -> u32
 }
 
 /// The fault at the last octet of a header's front, if that octet is wrong.
-#[tactic(auto, unfolding(crate::specs::HeaderOctets::wrong))]
-pub fn wrong_in(front: &[u8]) -> Option<StreamFault>
+#[tactic(auto, unfolding(crate::specs::HeaderOctets::last_octet_fault))]
+pub fn last_octet_fault(front: &[u8]) -> Option<StreamFault>
     requires { length front.now ≤ 12 }
-    ensures { result ≡ wrong front.now }
+    ensures { result ≡ last_octet_fault front.now }
 {
     let Some(octet) = front.last() else {
         return None;
@@ -74,11 +74,11 @@ pub fn wrong_in(front: &[u8]) -> Option<StreamFault>
 }
 
 /// Whether no octet of a header's front is wrong. The octets after the first seven may have any value.
-#[tactic(auto, unfolding(crate::specs::HeaderOctets::wrong))]
-pub fn begins_right(front: &[u8]) -> bool
+#[tactic(auto, unfolding(crate::specs::HeaderOctets::last_octet_fault))]
+pub fn has_no_wrong_octet(front: &[u8]) -> bool
     requires { 7 ≤ length front.now }
     ensures { IsTrue result → (k : ℕ) → k < length front.now →
-        wrong (take (k + 1) front.now) ≡ None }
+        last_octet_fault (take (k + 1) front.now) ≡ None }
 {
     front[0] == b'G'
         && front[1] == b'I'

@@ -25,7 +25,7 @@ pub use fault::{FramingFault, LoadFault, NewError, Stop, StreamFault};
 pub use going_on::{go_on, has_checkpoint};
 pub use laws::{
     after_a_stop, answers_agree, answers_at_headers, answers_go_on, counts_are_bounded,
-    each_joined, each_slot, each_step, one_of_each, open_messages,
+    each_joined, each_slot, each_step, fragment_padding, mixed_streams, one_of_each, open_messages,
 };
 pub use slots::MOST_OPEN;
 pub use status::{Fed, Status, Totals};

@@ -6,7 +6,7 @@ ghost use Rattle.giop_print.specs.Lines.{fault_line};
 ghost use Rattle.giop_stream.specs.Text.{stream_word, start_line, stop_text, truncated_line, framing_fault_word};
 
 use crate::fault::{FramingFault, StreamFault};
-use crate::header::{more_of, size_of};
+use crate::header::{has_more, size_of};
 use giop_message::{kind_of, minor_of, order_of};
 use giop_print::{MessageHeader, Out, OutFault};
 
@@ -34,7 +34,7 @@ pub fn start_line<O: Out>(out: &mut O, number: u64, header: &[u8]) -> Result<(),
         order: order_of(header),
         kind: kind_of(header),
         size: size_of(header),
-        more: more_of(header),
+        more: has_more(header),
     };
     giop_print::start_line(out, number, header)
 }

@@ -8,8 +8,8 @@ ghost use Rattle.giop_message.specs.MessageState.{Follows};
 ghost use Rattle.giop_message.specs.Signatures.{RequestTable, Answers, by_list};
 ghost use Rattle.giop_message.specs.Stored.{Stored};
 ghost use Rattle.giop_message.specs.declared.message.Message.{Message as CodeMessage};
-ghost use Rattle.giop_checkpoint.specs.Records.{AreRecords, entry_octets, used};
-ghost use Rattle.giop_checkpoint.specs.Refusals.{IsOurs};
+ghost use Rattle.giop_checkpoint.specs.Records.{AreRecords, stored_record_octets, first_record_length};
+ghost use Rattle.giop_checkpoint.specs.Refusals.{PassesUpToCounts};
 ghost use Rattle.giop_checkpoint.specs.declared.record.RecordKind.TheVariants as record_kinds;
 ghost use Rattle.giop_stream.specs.Rules.{rules, most_open};
 ghost use Rattle.giop_stream.specs.Lines.{Kept};
@@ -21,9 +21,9 @@ ghost use Rattle.giop_stream.specs.Events.{MessageKey};
 ghost use Rattle.giop_stream.specs.EngineState.{state_of};
 ghost use Rattle.giop_stream.specs.ViewOfState.{Shows};
 ghost use Rattle.giop_stream.specs.Checkpoint.{counts_of, fixed_of, open_kind, over_kind, Allows, IsRefused, OrNoMemory, Spells};
-ghost use Rattle.giop_stream.specs.Reloading.{stop_in, header_in, payload_count_in, owner_by, lacks_key, without_key, HasRoomFor, MayHaveSeams, pushed, IsOpenEntry, IsCurrentOwner, IsCurrentEntry, HasAdded, HasAddedFirst, AreLeft};
+ghost use Rattle.giop_stream.specs.Reloading.{stop_in, header_in, payload_count_in, owner_by, lacks_key, without_key, HasRoomFor, MayHaveSeams, open_entry_of_record, IsOpenEntry, IsCurrentOwner, IsCurrentEntry, HasAdded, HasAddedFirst, AreRecordsLeft};
 
-use crate::framing::{Framing, joins};
+use crate::framing::{Framing, joins_1_1};
 use crate::header::size_of;
 use crate::saving::counts_of;
 use crate::slots::{PayloadOwner, Slot, Slots};
@@ -37,7 +37,7 @@ use giop_sig::{Catalogue, Requests};
 use std::alloc::Global;
 
 /// The state of a stream, read from its checkpoint.
-pub fn read(
+pub fn read_checkpoint(
     alloc: Global,
     catalogue: &Catalogue,
     requests: &Requests,
@@ -48,7 +48,8 @@ pub fn read(
         IsRefused (counts_of catalogue.now requests.now) octets.now why) }
     ensures most { IfOk result (λ f.
         Allows (counts_of catalogue.now requests.now) octets.now f.slots.slots.most) }
-    ensures ours { IfOk result (λ f. IsOurs (counts_of catalogue.now requests.now) octets.now) }
+    ensures ours { IfOk result (λ f. PassesUpToCounts
+        (counts_of catalogue.now requests.now) octets.now) }
     ensures again { (n : ℕ) (p : List ℕ) →
         Spells octets.now catalogue.now requests.now n p →
         OrNoMemory result (λ f. (f.slots.slots.most ≡ n)
@@ -59,7 +60,7 @@ pub fn read(
         Ok(parts) => parts,
         Err(why) => return Err(why),
     };
-    let Ok(slots) = Slots::new(alloc, fixed.most_open as usize, joins(catalogue)) else {
+    let Ok(slots) = Slots::new(alloc, fixed.most_open as usize, joins_1_1(catalogue)) else {
         return Err(LoadFault::OutOfMemory);
     };
     match framing_of(catalogue, fixed, records, slots) {
@@ -80,24 +81,24 @@ fn framing_of(catalogue: &Catalogue, fixed: Fixed, records: &[u8], slots: Slots)
     ensures again { (l : RequestTable) (n : ℕ) (octets p : List ℕ)
         (s : Spells octets catalogue.now l n p) →
         fixed ≡ fixed_of catalogue.now l s.memory →
-        records.now ≡ flat_map entry_octets s.entries →
+        records.now ≡ flat_map stored_record_octets s.entries →
         IsSomeAnd result (λ f. Shows catalogue.now (by_list l) (framing_view f)
         (state_of (rules catalogue.now l n) p)) }
 {
     let mut slots = slots;
-    if !add_all(&mut slots, catalogue, fixed.octets, fixed.records, records) {
+    if !load_records(&mut slots, catalogue, fixed.octets, fixed.records, records) {
         return None;
     }
     set_owner(&mut slots, fixed.owner);
-    slots.is_mixed = fixed.is_mixed || !joins(catalogue);
+    slots.is_mixed = fixed.is_mixed || !joins_1_1(catalogue);
     let totals = Totals {
         messages: fixed.messages,
         faults: fixed.faults,
         octets: fixed.octets,
     };
-    let stopped = stop_of(&fixed.place);
-    let (header, payload_count) = header_of(fixed.place);
-    if !may_be(totals, stopped, header.len()) {
+    let stopped = stream_fault_of(&fixed.place);
+    let (header, payload_count) = held_header_of(fixed.place);
+    if !are_possible_totals(totals, stopped, header.len()) {
         return None;
     }
     Some(Framing {
@@ -110,7 +111,7 @@ fn framing_of(catalogue: &Catalogue, fixed: Fixed, records: &[u8], slots: Slots)
 }
 
 /// Whether a stream can have these totals, with this stream fault and this number of header octets held.
-fn may_be(totals: Totals, stopped: Option<StreamFault>, held: usize) -> bool
+fn are_possible_totals(totals: Totals, stopped: Option<StreamFault>, held: usize) -> bool
     requires { totals.octets ≤ 2 ^ 48 + 1 }
     ensures running { result ≡ true → stopped ≡ None → totals.octets ≤ 2 ^ 48 }
     ensures messages { result ≡ true → totals.messages ≤ totals.octets }
@@ -126,7 +127,7 @@ fn may_be(totals: Totals, stopped: Option<StreamFault>, held: usize) -> bool
 }
 
 /// The stream fault, if the stream has stopped.
-fn stop_of(place: &NextOctet) -> Option<StreamFault>
+fn stream_fault_of(place: &NextOctet) -> Option<StreamFault>
     ensures { result ≡ stop_in place.now }
 {
     match place {
@@ -136,22 +137,22 @@ fn stop_of(place: &NextOctet) -> Option<StreamFault>
 }
 
 /// The octets of a header that were read until now, and how many octets of the payload were read.
-fn header_of(place: NextOctet) -> (ArrayVec<u8, 12>, u32)
+fn held_header_of(place: NextOctet) -> (ArrayVec<u8, 12>, u32)
     ensures header { result.0.items ≡ header_in place }
     ensures payload_count { result.1 ≡ payload_count_in place }
 {
     match place {
-        NextOctet::Header(held) => (held_of(held.as_slice()), 0),
+        NextOctet::Header(held) => (header_octets(held.as_slice()), 0),
         NextOctet::Payload { header, left } => {
             let payload_count = size_of(&header).saturating_sub(left);
-            (held_of(&header), payload_count)
+            (header_octets(&header), payload_count)
         }
         NextOctet::Stopped(_) => (ArrayVec::new(), 0),
     }
 }
 
 /// These octets of a header, as the framing holds them.
-fn held_of(octets: &[u8]) -> ArrayVec<u8, 12>
+fn header_octets(octets: &[u8]) -> ArrayVec<u8, 12>
     requires { length octets.now ≤ 12 }
     ensures { result.items ≡ octets.now }
 {
@@ -178,7 +179,7 @@ fn set_owner(slots: &mut Slots, owner: Option<u32>)
 }
 
 /// Adds the messages of this number of records. Returns whether each of them is in its range.
-fn add_all(
+fn load_records(
     slots: &mut Slots,
     catalogue: &Catalogue,
     octets: u64,
@@ -190,7 +191,7 @@ fn add_all(
     requires ready { AreReady catalogue.now (octets + 1) slots.old }
     ensures ready { result ≡ true → AreReady catalogue.now (octets + 1) slots.new }
     ensures again { (l : Answers) (held : List Held) (w : MessageKey) (xs : Option Kept) →
-        AreLeft catalogue.now l (octets + 1) count records.now held w xs →
+        AreRecordsLeft catalogue.now l (octets + 1) count records.now held w xs →
         HasRoomFor slots.old held →
         slots.old.owner ≡ Open None →
         (result ≡ true) × HasAdded catalogue.now l slots.old slots.new held
@@ -199,30 +200,31 @@ fn add_all(
 {
     let mut rest = records;
     for _ in 0..count {
-        let Some(behind) = add_first(slots, catalogue, octets, rest) else {
+        let Some(after_record) = load_first(slots, catalogue, octets, rest) else {
             return false;
         };
-        rest = behind;
+        rest = after_record;
     }
     true
 }
 
 /// Adds the message of the first of these records, if it is in its range, and returns the records after it. After the
 /// record of the current message none is added.
-fn add_first<'a>(
+fn load_first<'a>(
     slots: &mut Slots,
     catalogue: &Catalogue,
     octets: u64,
     records: &'a [u8],
 ) -> Option<&'a [u8]>
     requires range { octets ≤ 2 ^ 48 + 1 }
-    requires whole { used records.now ≤ length records.now }
+    requires whole { first_record_length records.now ≤ length records.now }
     requires ready { AreReady catalogue.now (octets + 1) slots.old }
     ensures ready { IfSome result (λ rest. AreReady catalogue.now (octets + 1) slots.new) }
-    ensures rest { IfSome result (λ rest. rest.now ≡ drop (used records.now) records.now) }
+    ensures rest { IfSome result (λ rest. rest.now ≡ drop
+        (first_record_length records.now) records.now) }
     ensures again { (l : Answers) (count : ℕ) (held : List Held) (w : MessageKey)
         (xs : Option Kept) → (count ≡ 0 → ⊥) →
-        AreLeft catalogue.now l (octets + 1) count records.now held w xs →
+        AreRecordsLeft catalogue.now l (octets + 1) count records.now held w xs →
         HasRoomFor slots.old held →
         slots.old.owner ≡ Open None →
         IsSomeAnd result (λ rest. HasAddedFirst catalogue.now l (octets + 1) count
@@ -236,14 +238,19 @@ fn add_first<'a>(
     let Some(first) = first_record(records) else {
         return None;
     };
-    if !add(slots, catalogue, octets, &first) {
+    if !load_record(slots, catalogue, octets, &first) {
         return None;
     }
     Some(first.rest)
 }
 
 /// Adds the message of a record. Returns whether it is in its range.
-fn add(slots: &mut Slots, catalogue: &Catalogue, octets: u64, first: &FirstRecord<'_>) -> bool
+fn load_record(
+    slots: &mut Slots,
+    catalogue: &Catalogue,
+    octets: u64,
+    first: &FirstRecord<'_>,
+) -> bool
     requires range { octets ≤ 2 ^ 48 + 1 }
     requires ready { AreReady catalogue.now (octets + 1) slots.old }
     ensures ready { result ≡ true → AreReady catalogue.now (octets + 1) slots.new }
@@ -259,18 +266,18 @@ fn add(slots: &mut Slots, catalogue: &Catalogue, octets: u64, first: &FirstRecor
     ensures most { slots.new.slots.most ≡ slots.old.slots.most }
 {
     match first.record.record_kind {
-        RecordKind::Current => add_current(slots, catalogue, octets, first),
-        RecordKind::Open(id) => add_open(slots, catalogue, octets, first, Some(id)),
-        RecordKind::Over(id) => add_over(slots, first, Some(id)),
+        RecordKind::Current => load_current(slots, catalogue, octets, first),
+        RecordKind::Open(id) => load_open(slots, catalogue, octets, first, Some(id)),
+        RecordKind::Over(id) => load_over(slots, first, Some(id)),
         RecordKind::OpenWithoutId => {
-            joins(catalogue) && add_open(slots, catalogue, octets, first, None)
+            joins_1_1(catalogue) && load_open(slots, catalogue, octets, first, None)
         }
-        RecordKind::OverWithoutId => joins(catalogue) && add_over(slots, first, None),
+        RecordKind::OverWithoutId => joins_1_1(catalogue) && load_over(slots, first, None),
     }
 }
 
 /// Adds the current message.
-fn add_current(
+fn load_current(
     slots: &mut Slots,
     catalogue: &Catalogue,
     octets: u64,
@@ -285,14 +292,14 @@ fn add_current(
         (result ≡ true) × IsCurrentOwner catalogue.now l slots.new.owner w xs }
     ensures most { slots.new.slots.most ≡ slots.old.slots.most }
 {
-    let message = message_of(catalogue, octets, first);
+    let message = restored_message(catalogue, octets, first);
     let in_range = message.is_some();
     slots.owner = PayloadOwner::Current(message, false);
     in_range
 }
 
 /// Adds an open message that isn't over.
-fn add_open(
+fn load_open(
     slots: &mut Slots,
     catalogue: &Catalogue,
     octets: u64,
@@ -309,12 +316,12 @@ fn add_open(
         (result ≡ true) × HasAdded catalogue.now l slots.old slots.new (held ∷ []) }
     ensures most { slots.new.slots.most ≡ slots.old.slots.most }
 {
-    let message = message_of(catalogue, octets, first);
-    message.is_some() && push(slots, first, id, message)
+    let message = restored_message(catalogue, octets, first);
+    message.is_some() && push_open(slots, first, id, message)
 }
 
 /// Adds an open message that is over.
-fn add_over(slots: &mut Slots, first: &FirstRecord<'_>, id: Option<u32>) -> bool
+fn load_over(slots: &mut Slots, first: &FirstRecord<'_>, id: Option<u32>) -> bool
     ensures room { KeepsRoom slots.old slots.new }
     ensures owner { slots.new.owner ≡ slots.old.owner }
     ensures again { (C : Table) (l : Answers) (n : ℕ) (held : Held) →
@@ -322,11 +329,11 @@ fn add_over(slots: &mut Slots, first: &FirstRecord<'_>, id: Option<u32>) -> bool
         first.now.record.record_kind ≡ over_kind id → HasRoomFor slots.old (held ∷ []) →
         (result ≡ true) × HasAdded C l slots.old slots.new (held ∷ []) }
 {
-    is_zero(first) && push(slots, first, id, None)
+    stores_nothing(first) && push_open(slots, first, id, None)
 }
 
 /// Adds an open message, if there is room for it; one without an id, if there is no other. Returns whether it was added.
-fn push(
+fn push_open(
     slots: &mut Slots,
     first: &FirstRecord<'_>,
     id: Option<u32>,
@@ -338,7 +345,8 @@ fn push(
     ensures added { length slots.old.slots.entries < slots.old.slots.most →
         without_key (λ slot. slot.key) slots.old.slots.entries + lacks_key id ≤ 1 →
         (result ≡ true)
-        × (slots.new.slots.entries ≡ slots.old.slots.entries ++ pushed first.now id message ∷ []) }
+        × (slots.new.slots.entries ≡ slots.old.slots.entries
+        ++ open_entry_of_record first.now id message ∷ []) }
     ensures most { slots.new.slots.most ≡ slots.old.slots.most }
 {
     if slots.slots.is_full() {
@@ -362,7 +370,7 @@ fn push(
 }
 
 /// The message that a record stores, if its fields are valid and it has no more octets than the stream.
-fn message_of(catalogue: &Catalogue, octets: u64, first: &FirstRecord<'_>) -> Option<Message>
+fn restored_message(catalogue: &Catalogue, octets: u64, first: &FirstRecord<'_>) -> Option<Message>
     ensures ready { IsReady catalogue.now (octets + 1) result }
     ensures again { (m : CodeMessage) (l : Answers) (phase : Phase) (n : ℕ) (h xs : List ℕ) →
         IsReady catalogue.now (octets + 1) (Some m) →
@@ -385,7 +393,7 @@ fn message_of(catalogue: &Catalogue, octets: u64, first: &FirstRecord<'_>) -> Op
             return None;
         }
     }
-    if message.reach() <= octets {
+    if message.octets_taken() <= octets {
         Some(message)
     } else {
         None
@@ -400,7 +408,7 @@ fn is_joined_without_id(first: &FirstRecord<'_>) -> bool
 }
 
 /// Whether a record stores nothing of its message: it has no frames, and only zeros.
-fn is_zero(first: &FirstRecord<'_>) -> bool
+fn stores_nothing(first: &FirstRecord<'_>) -> bool
     ensures { first.now.frames.now ≡ [] → first.now.message ≡ replicate 224 0 → result ≡ true }
 {
     first.frames.is_empty() && first.message == [0; 224]

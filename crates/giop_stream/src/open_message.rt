@@ -8,10 +8,10 @@ ghost use Rattle.giop_message.specs.ReaderOfTable.{message_reader};
 ghost use Rattle.giop_message.specs.MessageState.{AreKnown};
 ghost use Rattle.giop_stream.specs.Events.{MessageKey, Seams, Faults, Closes};
 ghost use Rattle.giop_stream.specs.Lines.{Kept};
-ghost use Rattle.giop_stream.specs.Effects.{part_of, known_then, lines_of, event};
+ghost use Rattle.giop_stream.specs.Effects.{message_effect, message_kept_after, lines_of, event};
 ghost use Rattle.giop_stream.specs.SlotsRepresent.{RepresentsMessage, IsReady};
-ghost use Rattle.giop_stream.specs.DoesEffect.{DoesPart, WritesLines, one_if};
-ghost use Rattle.giop_stream.specs.PayloadRuns.{run_part};
+ghost use Rattle.giop_stream.specs.DoesEffect.{DoesMessageEffect, WritesLines, count_one_if};
+ghost use Rattle.giop_stream.specs.PayloadRuns.{run_message_effect};
 ghost use Rattle.giop_stream.specs.HeaderEndsOfStream.{run_header_ends};
 ghost use Rattle.giop_message.specs.HeaderEnds.{AgreesAtEnds, after_ends};
 ghost use Rattle.giop_message.specs.DueOctets.{TakesFront, StaysUndue};
@@ -51,8 +51,9 @@ pub fn take_octets<O: Out, Q: Correspondent>(
         (run_header_ends w o octets.now) →
         TakesFront (λ r. r.0) (StaysUndue Q.due Q.notified catalogue.now
         (Q.state correspondent.old) (run_header_ends w o))
-        (λ xs. DoesPart catalogue.now a (λ r. one_if r.1) result (O.log out.old) (O.log out.new)
-        message.new w (run_part catalogue.now a before w o xs)) result octets.now }
+        (λ xs. DoesMessageEffect catalogue.now a (λ r. count_one_if r.1) result (O.log out.old)
+        (O.log out.new)
+        message.new w (run_message_effect catalogue.now a before w o xs)) result octets.now }
     ensures told { IfOk result (λ r. (a : Answers) (w : MessageKey) (o : Option Kept) →
         RepresentsMessage catalogue.now a message.old w o →
         AgreesAtEnds Q.answer Q.notified catalogue.now (Q.state correspondent.old) a
@@ -81,7 +82,7 @@ pub fn seam_message(message: &mut Option<Message>)
     ensures kept { (C : Table) (l : Answers) (w : MessageKey) (o : Option Kept) (place : ℕ) →
         RepresentsMessage C l message.old w o →
         RepresentsMessage C l message.new w
-        (known_then (message_reader C l) (event place w Seams) o) }
+        (message_kept_after (message_reader C l) (event place w Seams) o) }
     ensures ready { (C : Table) (n : ℕ) → IsReady C n message.old → IsReady C n message.new }
 {
     if let Some(m) = message {
@@ -99,8 +100,8 @@ pub fn fault_message<O: Out>(
 ) -> Result<bool, OutFault>
     ensures does { (C : Table) (l : Answers) (w : MessageKey) (o : Option Kept) →
         RepresentsMessage C l message.old w o → w.number ≡ number →
-        DoesPart C l one_if result (O.log out.old) (O.log out.new) message.new w
-        (part_of (message_reader C l) (event place w (Faults fault)) o) }
+        DoesMessageEffect C l count_one_if result (O.log out.old) (O.log out.new) message.new w
+        (message_effect (message_reader C l) (event place w (Faults fault)) o) }
     ensures ready { (C : Table) (n : ℕ) → IsReady C n message.new }
 {
     if message.is_none() {
@@ -121,7 +122,7 @@ pub fn close_message<O: Out>(
     requires ready { IsReady catalogue.now (place + 1) message.now }
     ensures { (l : Answers) (w : MessageKey) (o : Option Kept) →
         RepresentsMessage catalogue.now l message.now w o →
-        WritesLines one_if result (O.log out.old) (O.log out.new)
+        WritesLines count_one_if result (O.log out.old) (O.log out.new)
         (lines_of (message_reader catalogue.now l) (event place w Closes) o) }
 {
     match message {

@@ -4,7 +4,7 @@ ghost use Rattle.std.specs.Prelude.{◌≡◌, ◌+◌, ◌*◌, ◌++◌, ◌^�
 
 use crate::fragment::Continuation;
 use crate::framing::{Framing, LIMIT};
-use crate::header::{begins_right, size_of, wrong_in};
+use crate::header::{has_no_wrong_octet, last_octet_fault, size_of};
 use arrayvec::ArrayVec;
 use giop_message::Correspondent;
 use giop_print::{Out, OutFault};
@@ -16,7 +16,7 @@ impl Framing {
     ghost use Rattle.giop_message.specs.Signatures.{Answers};
     ghost use Rattle.giop_stream.specs.Rules.{rules_by};
     ghost use Rattle.giop_message.specs.Headers.{size};
-    ghost use Rattle.giop_stream.specs.HeaderOctets.{wrong};
+    ghost use Rattle.giop_stream.specs.HeaderOctets.{last_octet_fault};
     ghost use Rattle.giop_stream.specs.SlotsRepresent.{AreReady};
     ghost use Rattle.giop_stream.specs.EngineState.{State};
     ghost use Rattle.giop_stream.specs.EngineStep as one;
@@ -58,7 +58,7 @@ impl Framing {
         ensures running { 0 < result → self.now.stopped ≡ None }
         ensures limit { 0 < result → self.now.totals.octets + result ≤ 2 ^ 48 }
         ensures right { (k : ℕ) → k < result →
-            wrong (self.now.header.items ++ take (k + 1) octets.now) ≡ None }
+            last_octet_fault (self.now.header.items ++ take (k + 1) octets.now) ≡ None }
     {
         if self.stopped.is_some() || 11 <= self.header.len() {
             return 0;
@@ -67,7 +67,7 @@ impl Framing {
         let room = (11 - self.header.len())
             .min(octets.len())
             .min(unread as usize);
-        if room == 11 && begins_right(octets) {
+        if room == 11 && has_no_wrong_octet(octets) {
             return 11;
         }
         let mut front: ArrayVec<u8, 12> = ArrayVec::new();
@@ -75,7 +75,7 @@ impl Framing {
         let mut header_run = 0;
         while header_run < room {
             front.push(octets[header_run]);
-            if wrong_in(front.as_slice()).is_some() {
+            if last_octet_fault(front.as_slice()).is_some() {
                 return header_run;
             }
             header_run += 1;
@@ -89,14 +89,14 @@ impl Framing {
         requires running { self.old.stopped ≡ None }
         requires limit { self.old.totals.octets + length octets.now ≤ 2 ^ 48 }
         requires right { (k : ℕ) → k < length octets.now →
-            wrong (self.old.header.items ++ take (k + 1) octets.now) ≡ None }
+            last_octet_fault (self.old.header.items ++ take (k + 1) octets.now) ≡ None }
         ensures shows { (C : Table) (l : Answers) (s : State) →
             Shows C l (framing_view self.old) s →
             Shows C l (framing_view self.new)
             (one.run_state (rules_by C l self.old.slots.slots.most) s octets.now) }
         ensures lines { (C : Table) (l : Answers) (s : State) →
             Shows C l (framing_view self.old) s →
-            one.run (rules_by C l self.old.slots.slots.most) s octets.now ≡ [] }
+            one.lines_of_run (rules_by C l self.old.slots.slots.most) s octets.now ≡ [] }
         ensures same { self.new.totals.messages ≡ self.old.totals.messages }
         ensures ready { (C : Table) → AreReady C (self.old.totals.octets + 1) self.old.slots →
             AreReady C (self.new.totals.octets + 1) self.new.slots }
@@ -153,7 +153,7 @@ impl Framing {
             × (Q.awaits_messages ≡ true → begins_in r.stream xs ≡ false))
             (λ xs. Does catalogue.now a result (O.log out.old) (O.log out.new)
             (framing_view self.new)
-            (one.runs (rules_by catalogue.now a self.old.slots.slots.most) s xs))
+            (one.run_step (rules_by catalogue.now a self.old.slots.slots.most) s xs))
             result octets.now }
         ensures told { IfOk result (λ n. (a : Answers) (s : State)
             (r : IsReached catalogue.now a self.old.slots.slots.most s) →
@@ -199,7 +199,7 @@ impl Framing {
 
     /// Takes the octets of a piece, in runs if that is possible, up to the first one after which the correspondent is due.
     /// Returns how many it took.
-    pub fn steps<O: Out, Q: Correspondent>(
+    pub fn take_piece<O: Out, Q: Correspondent>(
         &mut self,
         catalogue: &Catalogue,
         correspondent: &mut Q,
@@ -221,7 +221,7 @@ impl Framing {
             r.stream xs ≡ false)
             (λ xs. Does catalogue.now a result (O.log out.old) (O.log out.new)
             (framing_view self.new)
-            (one.runs (rules_by catalogue.now a self.old.slots.slots.most) s xs))
+            (one.run_step (rules_by catalogue.now a self.old.slots.slots.most) s xs))
             result piece.now }
         ensures told { IfOk result (λ n. (a : Answers) (s : State)
             (r : IsReached catalogue.now a self.old.slots.slots.most s) →

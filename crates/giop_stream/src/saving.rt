@@ -12,9 +12,9 @@ ghost use Rattle.giop_message.specs.MessageState.{Fits};
 ghost use Rattle.giop_stream.specs.Rules.{most_open};
 ghost use Rattle.giop_stream.specs.SlotsRepresent.{AreReady, IsReady, index_of, current_of};
 ghost use Rattle.giop_stream.specs.FramingView.{framing_view};
-ghost use Rattle.giop_stream.specs.Checkpoint.{counts_of, place_of, owner_of, count_own, fixed_of, open_kind, over_kind, IsOpen, IsMessageRecord, IsPutOne, AreOpen, IsPut, IsPutWhole, Puts, PutsSuch};
+ghost use Rattle.giop_stream.specs.Checkpoint.{counts_of, place_of, owner_record_index, count_current, fixed_of, open_kind, over_kind, IsOpen, IsMessageRecord, IsPutOne, AreOpen, IsPut, IsPutWhole, Puts, PutsSuch};
 
-use crate::framing::{Framing, joins};
+use crate::framing::{Framing, joins_1_1};
 use crate::header::size_of;
 use crate::slots::{PayloadOwner, Slot, Slots};
 use arrayvec::ArrayVec;
@@ -26,7 +26,7 @@ use giop_sig::{Catalogue, Requests};
 
 /// Writes the checkpoint of a stream that was read by this catalogue and this list. Returns how many octets it has.
 #[tactic(auto, using(crate::proofs::Restored::Saved::written_fixed))]
-pub fn write<O: Out>(
+pub fn write_checkpoint<O: Out>(
     framing: &Framing,
     catalogue: &Catalogue,
     requests: &Requests,
@@ -42,19 +42,19 @@ pub fn write<O: Out>(
 {
     let mut fixed: ArrayVec<u8, 96> = ArrayVec::new();
     fixed_part(framing, catalogue, requests).write(&mut fixed);
-    let begun = put_next(Ok(0), fixed.as_slice(), out);
-    let written = write_open(&framing.slots, begun, out);
+    let begun = put_after(Ok(0), fixed.as_slice(), out);
+    let written = write_open_records(&framing.slots, begun, out);
     let Some(message) = framing.slots.current() else {
         return written;
     };
     let (number, header) = (message.number(), message.header());
     let mut record: ArrayVec<u8, 832> = ArrayVec::new();
-    write_message(RecordKind::Current, number, header, message, &mut record);
-    put_next(written, record.as_slice(), out)
+    write_message_record(RecordKind::Current, number, header, message, &mut record);
+    put_after(written, record.as_slice(), out)
 }
 
 /// Puts octets after those that were written, unless a put has failed. Returns how many octets were written then.
-fn put_next<O: Out>(
+fn put_after<O: Out>(
     written: Result<u64, OutFault>,
     octets: &[u8],
     out: &mut O,
@@ -79,13 +79,13 @@ fn fixed_part(framing: &Framing, catalogue: &Catalogue, requests: &Requests) -> 
     Fixed {
         counts: counts_of(catalogue, requests),
         most_open: framing.slots.slots.most() as u32,
-        records: records_of(&framing.slots),
+        records: record_count(&framing.slots),
         octets: framing.totals.octets,
         messages: framing.totals.messages,
         faults: framing.totals.faults,
         place: place_of(framing),
-        owner: owner_of(&framing.slots),
-        is_mixed: framing.slots.is_mixed && joins(catalogue),
+        owner: owner_record_index(&framing.slots),
+        is_mixed: framing.slots.is_mixed && joins_1_1(catalogue),
     }
 }
 
@@ -106,9 +106,9 @@ pub fn counts_of(catalogue: &Catalogue, requests: &Requests) -> Counts
 }
 
 /// The number of records.
-fn records_of(slots: &Slots) -> u32
+fn record_count(slots: &Slots) -> u32
     requires { slots.now.slots.most ≤ most_open }
-    ensures { result ≡ length slots.now.slots.entries + count_own (current_of slots.now.owner) }
+    ensures { result ≡ length slots.now.slots.entries + count_current (current_of slots.now.owner) }
 {
     slots.slots.len() as u32 + u32::from(slots.current().is_some())
 }
@@ -122,7 +122,7 @@ fn place_of(framing: &Framing) -> NextOctet
         return NextOctet::Stopped(fault);
     }
     if framing.header.len() < 12 {
-        return NextOctet::Header(held(framing.header.as_slice()));
+        return NextOctet::Header(held_header(framing.header.as_slice()));
     }
     let mut header = [0; 12];
     header.copy_from_slice(framing.header.as_slice());
@@ -133,7 +133,7 @@ fn place_of(framing: &Framing) -> NextOctet
 }
 
 /// The octets of a header that are held.
-fn held(octets: &[u8]) -> ArrayVec<u8, 11>
+fn held_header(octets: &[u8]) -> ArrayVec<u8, 11>
     requires { length octets.now < 12 }
     ensures { result.items ≡ octets.now }
 {
@@ -145,9 +145,9 @@ fn held(octets: &[u8]) -> ArrayVec<u8, 11>
 }
 
 /// The index of the record of the message that the payload belongs to.
-fn owner_of(slots: &Slots) -> Option<u32>
+fn owner_record_index(slots: &Slots) -> Option<u32>
     requires { slots.now.slots.most ≤ most_open }
-    ensures { result ≡ owner_of (index_of slots.now.owner) (current_of slots.now.owner)
+    ensures { result ≡ owner_record_index (index_of slots.now.owner) (current_of slots.now.owner)
         (length slots.now.slots.entries) }
 {
     match &slots.owner {
@@ -159,7 +159,7 @@ fn owner_of(slots: &Slots) -> Option<u32>
 }
 
 /// Writes the records of the open messages after what was written. Each record is composed, even after a failed put.
-fn write_open<O: Out>(
+fn write_open_records<O: Out>(
     slots: &Slots,
     begun: Result<u64, OutFault>,
     out: &mut O,
@@ -175,14 +175,14 @@ fn write_open<O: Out>(
     let mut written = begun;
     for k in 0..slots.slots.len() {
         let mut record: ArrayVec<u8, 832> = ArrayVec::new();
-        write_slot(slots.id(k), slots.at(k), &mut record);
-        written = put_next(written, record.as_slice(), out);
+        write_open_record(slots.request_id_at(k), slots.open_at(k), &mut record);
+        written = put_after(written, record.as_slice(), out);
     }
     written
 }
 
 /// Writes the record of an open message.
-fn write_slot(id: Option<u32>, slot: &Slot, out: &mut ArrayVec<u8, 832>)
+fn write_open_record(id: Option<u32>, slot: &Slot, out: &mut ArrayVec<u8, 832>)
     requires room { array_vec_len out.old + 832 ≤ 832 }
     ensures put { (C : Table) (at : ℕ) → IsReady C at slot.now.message →
         IsPutOne out.old.items out.new.items (IsOpen (record { key = id; value = slot.now })) }
@@ -190,7 +190,7 @@ fn write_slot(id: Option<u32>, slot: &Slot, out: &mut ArrayVec<u8, 832>)
 {
     match &slot.message {
         Some(message) => {
-            write_message(open_kind(id), slot.number, slot.header, message, out);
+            write_message_record(open_kind(id), slot.number, slot.header, message, out);
         }
         None => {
             let record = Record {
@@ -226,7 +226,7 @@ fn over_kind(id: Option<u32>) -> RecordKind
 }
 
 /// Writes the record of a message that isn't over.
-fn write_message(
+fn write_message_record(
     record_kind: RecordKind,
     number: u64,
     header: [u8; 12],

@@ -5,10 +5,10 @@ ghost use Rattle.giop_print.specs.Output.{Writes};
 ghost use Rattle.giop_sig.specs.Table.{Table};
 ghost use Rattle.giop_message.specs.Signatures.{Answers};
 ghost use Rattle.giop_message.specs.MessageState.{AreKnown};
-ghost use Rattle.giop_stream.specs.Events.{MessageKey, Faults, Closes, mixes, is_id};
+ghost use Rattle.giop_stream.specs.Events.{MessageKey, Faults, Closes, ends_joining, is_same_id};
 ghost use Rattle.giop_stream.specs.Rules.{most_open, asks_by};
 ghost use Rattle.giop_stream.specs.Lines.{Kept, nothing_kept};
-ghost use Rattle.giop_stream.specs.OpenSlots.{Tracked, IsNotOpen, asked_in};
+ghost use Rattle.giop_stream.specs.OpenSlots.{Tracked, IsNotOpen, given_id};
 ghost use Rattle.giop_stream.specs.SlotsRepresent.{RepresentsMessage, current_of};
 
 use crate::fault::FramingFault;
@@ -58,7 +58,7 @@ impl PayloadOwner {
 fn has_id(message: &Message, id: u32) -> bool
     ensures { (C : Table) (l : Answers) (w : MessageKey) (kept : Kept) →
         RepresentsMessage C l (Some message.now) w (Some kept) →
-        result ≡ is_id (Some id) (asked_in (asks_by C l) w (Some kept)) }
+        result ≡ is_same_id (Some id) (given_id (asks_by C l) w (Some kept)) }
 {
     match message.request_id() {
         Some(other) => id == other,
@@ -79,14 +79,14 @@ impl Slots {
     ghost use Rattle.std.specs.Prelude.{◌<◌, ◌==◌, IfSome, flat_map, nat_le, is_some, is_none, ◌||◌, option_copied, option_map, slice_get};
     ghost use Rattle.std.specs.List.{position_from};
     ghost use Rattle.giop_print.specs.Lines.{unfinished_line};
-    ghost use Rattle.giop_stream.specs.Events.{Open, Opens, Seams, Cancelled, Rising};
+    ghost use Rattle.giop_stream.specs.Events.{Open, Opens, Seams, Cancelled, NumbersRise};
     ghost use Rattle.giop_message.specs.Signatures.{signatures_of};
-    ghost use Rattle.giop_message.specs.Messages.{message, message_lines};
+    ghost use Rattle.giop_message.specs.Messages.{read_message, message_lines};
     ghost use Rattle.giop_message.specs.ReaderOfTable.{first_request_id};
     ghost use Rattle.giop_stream.specs.SlotsRepresent.{AreSlots, SlotsRepresent, index_under, AreReady, KeepsRoom, IsBare};
     ghost use Rattle.giop_stream.specs.Effects.{event, effect_to};
-    ghost use Rattle.giop_stream.specs.DoesEffect.{DoesEffect, one_if, never};
-    ghost use Rattle.giop_stream.specs.OpenSlots.{Slot as Held, left_open};
+    ghost use Rattle.giop_stream.specs.DoesEffect.{DoesEffect, count_one_if, count_none};
+    ghost use Rattle.giop_stream.specs.OpenSlots.{Slot as Held, unfinished_number};
     ghost use Rattle.giop_stream.specs.PayloadRuns.{run_effect};
     ghost use Rattle.giop_stream.specs.HeaderEndsOfStream.{owner_header_ends};
     ghost use Rattle.giop_message.specs.HeaderEnds.{AgreesAtEnds, after_ends};
@@ -120,23 +120,23 @@ impl Slots {
     }
 
     /// The open message at this index.
-    pub fn at(&self, k: usize) -> &Slot
-        requires { k < length self.now.slots.entries }
-        ensures { option_map (λ e. e.value) (slice_get self.now.slots.entries k)
+    pub fn open_at(&self, index: usize) -> &Slot
+        requires { index < length self.now.slots.entries }
+        ensures { option_map (λ e. e.value) (slice_get self.now.slots.entries index)
             ≡ Some result.now }
     {
-        match self.slots.get(k) {
+        match self.slots.get(index) {
             Some(slot) => slot,
             None => unreachable!(),
         }
     }
 
     /// The request id of the open message at this index, unless it is of GIOP 1.1.
-    pub fn id(&self, k: usize) -> Option<u32>
-        requires { k < length self.now.slots.entries }
-        ensures { option_map (λ e. e.key) (slice_get self.now.slots.entries k) ≡ Some result }
+    pub fn request_id_at(&self, index: usize) -> Option<u32>
+        requires { index < length self.now.slots.entries }
+        ensures { option_map (λ e. e.key) (slice_get self.now.slots.entries index) ≡ Some result }
     {
-        match self.slots.key(k) {
+        match self.slots.key(index) {
             Some(id) => id,
             None => unreachable!(),
         }
@@ -155,14 +155,14 @@ impl Slots {
     }
 
     /// Writes the lines of the open messages that have neither ended nor been faulted, in the order of their numbers.
-    pub fn unfinished<O: Out>(&self, out: &mut O) -> Result<(), OutFault>
+    pub fn write_unfinished<O: Out>(&self, out: &mut O) -> Result<(), OutFault>
         ensures { (C : Table) (l : Answers) (slots : List Held) →
             AreSlots C l self.now.slots.entries slots →
             Writes result (O.log out.old) (O.log out.new)
-            (flat_map unfinished_line (flat_map left_open slots)) }
+            (flat_map unfinished_line (flat_map unfinished_number slots)) }
     {
         for k in 0..self.slots.len() {
-            let slot = self.at(k);
+            let slot = self.open_at(k);
             if slot.message.is_some() {
                 unfinished_line(out, slot.number)?;
             }
@@ -185,12 +185,12 @@ impl Slots {
         requires limit { before + length octets.now ≤ 2 ^ 48 }
         ensures known { AreKnown catalogue.now (Q.answer (Q.state correspondent.new)) }
         ensures does { (a : Answers) (c : Tracked) (owner_of_next : Option MessageKey) →
-            SlotsRepresent catalogue.now a self.old c owner_of_next → Rising c.still_open →
+            SlotsRepresent catalogue.now a self.old c owner_of_next → NumbersRise c.still_open →
             AgreesAtEnds Q.answer Q.notified catalogue.now (Q.state correspondent.old) a
             (owner_header_ends c owner_of_next octets.now) →
             TakesFront (λ r. r.0) (StaysUndue Q.due Q.notified catalogue.now
             (Q.state correspondent.old) (owner_header_ends c owner_of_next))
-            (λ xs. DoesEffect catalogue.now a (λ r. one_if r.1) result
+            (λ xs. DoesEffect catalogue.now a (λ r. count_one_if r.1) result
             (O.log out.old) (O.log out.new) self.new
             (run_effect catalogue.now a before c owner_of_next xs) owner_of_next)
             result octets.now }
@@ -243,9 +243,9 @@ impl Slots {
         out: &mut O,
     ) -> Result<bool, OutFault>
         ensures does { (C : Table) (l : Answers) (c : Tracked) (w : MessageKey) →
-            SlotsRepresent C l self.old c (Some w) → w.number ≡ number → Rising c.still_open →
-            (c.mixed || mixes (event place w (Faults fault))) ≡ c.mixed →
-            DoesEffect C l one_if result (O.log out.old) (O.log out.new) self.new
+            SlotsRepresent C l self.old c (Some w) → w.number ≡ number → NumbersRise c.still_open →
+            (c.mixed || ends_joining (event place w (Faults fault))) ≡ c.mixed →
+            DoesEffect C l count_one_if result (O.log out.old) (O.log out.new) self.new
             (effect_to C l place c (Some w) (Faults fault)) (Some w) }
         ensures room { KeepsRoom self.old self.new }
     {
@@ -273,8 +273,8 @@ impl Slots {
     ) -> Result<bool, OutFault>
         requires ready { AreReady catalogue.now (place + 1) self.old }
         ensures does { (l : Answers) (c : Tracked) (owner_of_next : Option MessageKey) →
-            SlotsRepresent catalogue.now l self.old c owner_of_next → Rising c.still_open →
-            DoesEffect catalogue.now l one_if result (O.log out.old) (O.log out.new) self.new
+            SlotsRepresent catalogue.now l self.old c owner_of_next → NumbersRise c.still_open →
+            DoesEffect catalogue.now l count_one_if result (O.log out.old) (O.log out.new) self.new
             (effect_to catalogue.now l place c owner_of_next Closes) None }
         ensures room { KeepsRoom self.old self.new }
     {
@@ -286,14 +286,14 @@ impl Slots {
                 *is_over = true;
                 close_message(message, catalogue, place, out)
             }
-            PayloadOwner::Open(_) => self.close_open(catalogue, place, out),
+            PayloadOwner::Open(_) => self.close_open_owner(catalogue, place, out),
         }
     }
 
     /// Closes the owner of the payload if it isn't the current message. This is a function of its own, so that the code
     /// that runs at the end of every message needs no stack for an open one.
     #[inline(never)]
-    fn close_open<O: Out>(
+    fn close_open_owner<O: Out>(
         &mut self,
         catalogue: &Catalogue,
         place: u64,
@@ -303,8 +303,8 @@ impl Slots {
         requires open { (message : Option Message) (is_over : Bool) →
             self.old.owner ≡ PayloadOwner.Current message is_over → ⊥ }
         ensures does { (l : Answers) (c : Tracked) (owner_of_next : Option MessageKey) →
-            SlotsRepresent catalogue.now l self.old c owner_of_next → Rising c.still_open →
-            DoesEffect catalogue.now l one_if result (O.log out.old) (O.log out.new) self.new
+            SlotsRepresent catalogue.now l self.old c owner_of_next → NumbersRise c.still_open →
+            DoesEffect catalogue.now l count_one_if result (O.log out.old) (O.log out.new) self.new
             (effect_to catalogue.now l place c owner_of_next Closes) None }
         ensures room { KeepsRoom self.old self.new }
     {
@@ -375,14 +375,14 @@ impl Slots {
     }
 
     /// Makes the open message at this index the owner of the payload.
-    pub fn set_open_owner(&mut self, k: usize)
+    pub fn set_open_owner(&mut self, index: usize)
         ensures kept { (C : Table) (l : Answers) (c : Tracked) (owner_of_next : Option MessageKey)
             (o : Open) →
-            SlotsRepresent C l self.old c owner_of_next → slice_get c.still_open k ≡ Some o →
+            SlotsRepresent C l self.old c owner_of_next → slice_get c.still_open index ≡ Some o →
             SlotsRepresent C l self.new c (Some o.opener) }
         ensures room { KeepsRoom self.old self.new }
     {
-        self.owner = PayloadOwner::Open(Some(k));
+        self.owner = PayloadOwner::Open(Some(index));
     }
 
     /// Notes that the payload belongs to no message from now on.
@@ -428,7 +428,7 @@ impl Slots {
     pub fn request_id(&self) -> u32
         ensures { (C : Table) (l : Answers) (w : MessageKey) (kept : Kept) (i : ℕ) →
             RepresentsMessage C l (current_of self.now.owner) w (Some kept) →
-            first_request_id (message_lines (message (signatures_of C (l w.number) kept.phase)
+            first_request_id (message_lines (read_message (signatures_of C (l w.number) kept.phase)
             w.header kept.octets))
             ≡ Some i → result ≡ i }
     {
@@ -448,7 +448,7 @@ impl Slots {
     }
 
     /// The index of the message that Fragments of GIOP 1.1 continue.
-    pub fn pending(&self) -> Option<usize>
+    pub fn find_1_1(&self) -> Option<usize>
         ensures value { result ≡ index_under self.now None }
         ensures within { IfSome result (λ k. k < length self.now.slots.entries) }
     {
@@ -459,26 +459,26 @@ impl Slots {
     }
 
     /// The index of the open message with this request id; or of the one without an id, if Fragments of GIOP 1.1 have none.
-    pub fn find_by(&self, id: Option<u32>) -> Option<usize>
+    pub fn find_under(&self, id: Option<u32>) -> Option<usize>
         ensures value { result ≡ index_under self.now id }
         ensures within { IfSome result (λ k. k < length self.now.slots.entries) }
     {
         match id {
             Some(id) => self.find(id),
-            None => self.pending(),
+            None => self.find_1_1(),
         }
     }
 
     /// Whether the open message at this index isn't over, and its own octets have given this request id.
-    pub fn asks(&self, k: usize, id: u32) -> bool
-        requires { k < length self.now.slots.entries }
+    pub fn has_given_id(&self, index: usize, id: u32) -> bool
+        requires { index < length self.now.slots.entries }
         ensures { (C : Table) (l : Answers) (c : Tracked) (owner_of_next : Option MessageKey)
             (o : Open) →
-            SlotsRepresent C l self.now c owner_of_next → slice_get c.still_open k ≡ Some o →
-            result ≡ is_id (Some id)
-            (asked_in (asks_by C l) o.opener (c.known o.opener.number)) }
+            SlotsRepresent C l self.now c owner_of_next → slice_get c.still_open index ≡ Some o →
+            result ≡ is_same_id (Some id)
+            (given_id (asks_by C l) o.opener (c.known o.opener.number)) }
     {
-        match &self.at(k).message {
+        match &self.open_at(index).message {
             Some(message) => has_id(message, id),
             None => false,
         }
@@ -486,10 +486,10 @@ impl Slots {
 
     /// Notes that the payload of a Fragment of GIOP 1.1 begins at the next octet of its owner.
     #[inline(never)]
-    pub fn seam(&mut self)
+    pub fn note_seam(&mut self)
         ensures kept { (C : Table) (l : Answers) (c : Tracked) (k : ℕ) (o : Open) (place : ℕ) →
             SlotsRepresent C l self.old c (Some o.opener) → slice_get c.still_open k ≡ Some o →
-            Rising c.still_open →
+            NumbersRise c.still_open →
             SlotsRepresent C l self.new (effect_to C l place c (Some o.opener) Seams).tracked
             (Some o.opener) }
         ensures room { KeepsRoom self.old self.new }
@@ -505,7 +505,7 @@ impl Slots {
     }
 
     /// Notes that nobody can tell to which message a Fragment of GIOP 1.1 belongs, from now on.
-    pub fn mix(&mut self)
+    pub fn stop_joining_1_1(&mut self)
         ensures kept { (C : Table) (l : Answers) (c : Tracked) (owner_of_next : Option MessageKey) →
             SlotsRepresent C l self.old c owner_of_next →
             SlotsRepresent C l self.new (record c { mixed = true }) owner_of_next }
@@ -517,19 +517,19 @@ impl Slots {
     /// Closes the open message at this index. The message with the number `by` cancels it.
     pub fn cancel<O: Out>(
         &mut self,
-        k: usize,
+        index: usize,
         by: u64,
         place: u64,
         out: &mut O,
     ) -> Result<(), OutFault>
         ensures does { (C : Table) (l : Answers) (c : Tracked) (w : MessageKey) (o : Open) →
             SlotsRepresent C l self.old c (Some w) → IsNotOpen w.number c.still_open →
-            slice_get c.still_open k ≡ Some o → Rising c.still_open →
-            DoesEffect C l never result (O.log out.old) (O.log out.new) self.new
+            slice_get c.still_open index ≡ Some o → NumbersRise c.still_open →
+            DoesEffect C l count_none result (O.log out.old) (O.log out.new) self.new
             (effect_to C l place c (Some o.opener) (Cancelled by)) (Some w) }
         ensures room { KeepsRoom self.old self.new }
     {
-        match self.slots.take(k) {
+        match self.slots.take(index) {
             Some(entry) => {
                 if entry.value.message.is_none() {
                     return Ok(());

@@ -1,8 +1,8 @@
 //! How a row is dumped with a single save and load, after each of its octets in turn.
 
-ghost use Rattle.giop_stream.specs.EngineHolds.{AreOf};
+ghost use Rattle.giop_stream.specs.EngineHolds.{IsRequestTableOf};
 
-use super::engine::engine_for;
+use super::engine::{engine_for, loaded};
 use super::resuming::REFUSED;
 use super::row::Row;
 use super::saving::ended;
@@ -31,7 +31,7 @@ pub fn is_loaded(
     row: &Row,
     stream: &[u8],
 ) -> io::Result<bool>
-    requires of { AreOf catalogue.now requests.now }
+    requires of { IsRequestTableOf catalogue.now requests.now }
 {
     for at in 0..stream.len() + 1 {
         if !is_loaded_at(rt, catalogue, requests, row, stream, at)? {
@@ -49,7 +49,7 @@ fn is_loaded_at(
     stream: &[u8],
     at: usize,
 ) -> io::Result<bool>
-    requires of { AreOf catalogue.now requests.now }
+    requires of { IsRequestTableOf catalogue.now requests.now }
 {
     let mut room = [0; 16_384];
     let mut sheet = Sheet::new(&mut room);
@@ -70,14 +70,14 @@ fn is_loaded_at(
 /// status.
 fn resumed(
     alloc: Global,
-    engine: Engine,
+    engine: Box<Engine>,
     catalogue: &Catalogue,
     requests: &Requests,
     stream: &[u8],
     at: usize,
     sheet: &mut Sheet,
 ) -> u8
-    requires of { AreOf catalogue.now requests.now }
+    requires of { IsRequestTableOf catalogue.now requests.now }
 {
     let (first, rest) = stream.split_at(at.min(stream.len()));
     let mut engine = engine;
@@ -85,7 +85,7 @@ fn resumed(
     let mut octets = [0; 14_240];
     let mut saved = Sheet::new(&mut octets);
     let _saved = engine.save(&mut saved);
-    let Ok(mut engine) = Engine::load(alloc, catalogue, requests, saved.held()) else {
+    let Ok(mut engine) = loaded(alloc, catalogue, requests, saved.held()) else {
         return REFUSED;
     };
     let _fed = engine.feed(rest, sheet);

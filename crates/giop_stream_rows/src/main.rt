@@ -51,7 +51,7 @@ mod telling;
 mod trying;
 mod way;
 
-use giop_run::{Inputs, front};
+use giop_run::{Inputs, read_to_one_over};
 use std::process::ExitCode;
 use tally::Tally;
 use telling::tell;
@@ -60,7 +60,7 @@ use telling::tell;
 const MOST: u64 = 16_777_216;
 
 fn main(rt: HostRuntime) -> ExitCode {
-    let Ok(octets) = front(rt.alloc(), &mut rt.standard_input(), MOST) else {
+    let Ok(octets) = read_to_one_over(rt.alloc(), &mut rt.standard_input(), MOST) else {
         return ExitCode::from(4);
     };
     let Ok(text) = str::from_utf8(&octets) else {

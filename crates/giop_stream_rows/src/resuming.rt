@@ -1,9 +1,9 @@
 //! How the checkpoint of a row is loaded and read on from, saved again, and loaded with each of its octets complemented.
 
-ghost use Rattle.giop_stream.specs.EngineHolds.{AreOf};
+ghost use Rattle.giop_stream.specs.EngineHolds.{IsRequestTableOf};
 
 use super::difference::Difference;
-use super::engine::engine_for;
+use super::engine::{engine_for, loaded};
 use super::kept::{Kept, complement};
 use super::row::{Row, octets};
 use super::saving::ended;
@@ -34,7 +34,7 @@ pub fn is_resumed(
     row: &Row,
     kept: &Kept,
 ) -> io::Result<bool>
-    requires of { AreOf catalogue.now requests.now }
+    requires of { IsRequestTableOf catalogue.now requests.now }
 {
     match octets(rt.alloc(), kept.behind) {
         Some(behind) => is_followed(rt, catalogue, requests, row, kept, &behind),
@@ -51,7 +51,7 @@ fn is_followed(
     kept: &Kept,
     behind: &[u8],
 ) -> io::Result<bool>
-    requires of { AreOf catalogue.now requests.now }
+    requires of { IsRequestTableOf catalogue.now requests.now }
 {
     let Some(mut checkpoint) = octets(rt.alloc(), kept.checkpoint) else {
         return malformed(rt, row.name, kept.checkpoint);
@@ -80,7 +80,7 @@ fn is_loaded(
     checkpoint: &[u8],
     behind: &[u8],
 ) -> io::Result<bool>
-    requires of { AreOf catalogue.now requests.now }
+    requires of { IsRequestTableOf catalogue.now requests.now }
 {
     let mut room = [0; 16_384];
     let mut sheet = Sheet::new(&mut room);
@@ -106,9 +106,9 @@ fn resumed(
     behind: &[u8],
     sheet: &mut Sheet,
 ) -> Result<u8, LoadFault>
-    requires of { AreOf catalogue.now requests.now }
+    requires of { IsRequestTableOf catalogue.now requests.now }
 {
-    let mut engine = Engine::load(alloc, catalogue, requests, checkpoint)?;
+    let mut engine = loaded(alloc, catalogue, requests, checkpoint)?;
     let _fed = engine.feed(behind, sheet);
     Ok(ended(engine, sheet))
 }
@@ -134,7 +134,7 @@ fn is_saved_of(
     front: &str,
     checkpoint: &[u8],
 ) -> io::Result<bool>
-    requires of { AreOf catalogue.now requests.now }
+    requires of { IsRequestTableOf catalogue.now requests.now }
 {
     if front.is_empty() {
         return Ok(true);
@@ -149,7 +149,7 @@ fn is_saved_of(
     if !first {
         return Ok(false);
     }
-    match Engine::load(rt.alloc(), catalogue, requests, checkpoint) {
+    match loaded(rt.alloc(), catalogue, requests, checkpoint) {
         Ok(engine) => is_saved(rt, row, SAVED_AGAIN, &engine, checkpoint),
         Err(why) => is_as_told(rt, row, &SAVED_AGAIN, refusal(why).as_bytes(), REFUSED),
     }
@@ -159,7 +159,7 @@ fn is_saved_of(
 fn is_saved_behind(
     rt: &HostRuntime,
     row: &Row,
-    engine: Engine,
+    engine: Box<Engine>,
     front: &[u8],
     checkpoint: &[u8],
 ) -> io::Result<bool> {
@@ -209,7 +209,7 @@ fn is_damaged(
     checkpoint: &mut [u8],
     behind: &[u8],
 ) -> io::Result<bool>
-    requires of { AreOf catalogue.now requests.now }
+    requires of { IsRequestTableOf catalogue.now requests.now }
 {
     if damaged.is_empty() {
         return Ok(true);
@@ -247,7 +247,7 @@ fn is_damaged_at(
     checkpoint: &mut [u8],
     behind: &[u8],
 ) -> io::Result<bool>
-    requires of { AreOf catalogue.now requests.now }
+    requires of { IsRequestTableOf catalogue.now requests.now }
 {
     for at in first..last.min(checkpoint.len()) {
         checkpoint[at] = !checkpoint[at];
@@ -273,7 +273,7 @@ fn outcome(
     checkpoint: &[u8],
     behind: &[u8],
 ) -> &'static str
-    requires of { AreOf catalogue.now requests.now }
+    requires of { IsRequestTableOf catalogue.now requests.now }
 {
     let mut room = [0; 16_384];
     let mut sheet = Sheet::new(&mut room);

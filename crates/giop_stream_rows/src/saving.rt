@@ -1,10 +1,10 @@
 //! How a row is dumped with a save and a load after each of its octets, and how its checkpoints are compared.
 
-ghost use Rattle.giop_stream.specs.EngineHolds.{AreOf};
+ghost use Rattle.giop_stream.specs.EngineHolds.{IsRequestTableOf};
 
 use super::checkpoints::{Checkpoints, NO_OCTETS, hashed};
 use super::difference::Difference;
-use super::engine::engine_for;
+use super::engine::{engine_for, loaded};
 use super::row::Row;
 use super::trying::{differs, is_as_told, malformed};
 use giop_print::Sheet;
@@ -27,7 +27,7 @@ pub fn is_saved(
     row: &Row,
     stream: &[u8],
 ) -> io::Result<bool>
-    requires of { AreOf catalogue.now requests.now }
+    requires of { IsRequestTableOf catalogue.now requests.now }
 {
     if row.checkpoints.is_empty() {
         return Ok(true);
@@ -49,7 +49,7 @@ fn is_saved_as_told(
     stream: &[u8],
     told: &Checkpoints,
 ) -> io::Result<bool>
-    requires of { AreOf catalogue.now requests.now }
+    requires of { IsRequestTableOf catalogue.now requests.now }
 {
     let mut room = [0; 16_384];
     let mut sheet = Sheet::new(&mut room);
@@ -78,15 +78,15 @@ fn is_saved_as_told(
 /// the hash of the fixed parts differs.
 fn saved<'a>(
     alloc: Global,
-    engine: Engine<'a>,
+    engine: Box<Engine<'a>>,
     most: usize,
     catalogue: &'a Catalogue,
     requests: &'a Requests,
     stream: &[u8],
     told: &Checkpoints,
     sheet: &mut Sheet,
-) -> Result<Engine<'a>, Difference<'static, 'static>>
-    requires of { AreOf catalogue.now requests.now }
+) -> Result<Box<Engine<'a>>, Difference<'static, 'static>>
+    requires of { IsRequestTableOf catalogue.now requests.now }
 {
     let mut octets = [0; 14_240];
     let mut engine = engine;
@@ -100,7 +100,7 @@ fn saved<'a>(
             return Err(Difference::Length { at, wanted, got });
         }
         hash = hashed(hash, front(saved.held(), FIXED));
-        engine = match Engine::load(alloc, catalogue, requests, saved.held()) {
+        engine = match loaded(alloc, catalogue, requests, saved.held()) {
             Ok(engine) => engine,
             Err(why) => return Err(Difference::Refused { at, why }),
         };
@@ -133,8 +133,8 @@ fn octet(stream: &[u8], at: usize) -> &[u8] {
 }
 
 /// Finishes an engine. Returns the status of the program.
-pub fn ended(engine: Engine, sheet: &mut Sheet) -> u8 {
-    match engine.finish(sheet) {
+pub fn ended(engine: Box<Engine>, sheet: &mut Sheet) -> u8 {
+    match Box::into_inner(engine).finish(sheet) {
         Ok(totals) if totals.faults == 0 => 0,
         Ok(_) => 1,
         Err(_) => 4,

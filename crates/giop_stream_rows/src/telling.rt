@@ -1,13 +1,13 @@
 //! How the sets of rows are read, each row is dumped, and it is printed whether the row differs.
 
-ghost use Rattle.giop_stream.specs.EngineHolds.{AreOf};
+ghost use Rattle.giop_stream.specs.EngineHolds.{IsRequestTableOf};
 
 use super::kept::Kept;
 use super::resuming::is_resumed;
 use super::row::{Row, list, octets};
 use super::tally::Tally;
 use super::trying::is_dumped_each_way;
-use giop_sig::{Catalogue, Requests, SigFault};
+use giop_sig::{Catalogue, Requests};
 use std::alloc::Global;
 use std::io;
 
@@ -27,8 +27,8 @@ fn tell_set(rt: &HostRuntime, set: &str, tally: &mut Tally) -> io::Result<()> {
         return unread(rt, "MALFORMED files", files, tally);
     };
     match catalogue_of(rt.alloc(), signatures) {
-        Ok(catalogue) => tell_typed(rt, &catalogue, requests, rows, tally),
-        Err(_) => unread(rt, "REFUSED signature file", signatures, tally),
+        Some(catalogue) => tell_typed(rt, &catalogue, requests, rows, tally),
+        None => unread(rt, "REFUSED signature file", signatures, tally),
     }
 }
 
@@ -39,11 +39,13 @@ fn unread(rt: &HostRuntime, why: &str, text: &str, tally: &mut Tally) -> io::Res
 }
 
 /// The catalogue of a signature file, or of the built-in types if there is none.
-fn catalogue_of(alloc: Global, text: &str) -> Result<Catalogue, SigFault> {
-    if text.is_empty() {
-        return Catalogue::builtin(alloc);
-    }
-    Catalogue::parse_types(alloc, text.as_bytes())
+fn catalogue_of(alloc: Global, text: &str) -> Option<Box<Catalogue>> {
+    let told = if text.is_empty() {
+        Catalogue::builtin(alloc)
+    } else {
+        Catalogue::parse_types(alloc, text.as_bytes())
+    };
+    Box::new(alloc, told.ok()?).ok()
 }
 
 fn tell_typed(
@@ -80,7 +82,7 @@ fn tell_rows(
     rows: &str,
     tally: &mut Tally,
 ) -> io::Result<()>
-    requires of { AreOf catalogue.now requests.now }
+    requires of { IsRequestTableOf catalogue.now requests.now }
 {
     for text in rows.split("\n\n") {
         match Row::read(text) {
@@ -98,7 +100,7 @@ fn tell_row(
     row: &Row,
     tally: &mut Tally,
 ) -> io::Result<()>
-    requires of { AreOf catalogue.now requests.now }
+    requires of { IsRequestTableOf catalogue.now requests.now }
 {
     if let Some(kept) = Kept::read(row.stream) {
         let is_as_told = is_resumed(rt, catalogue, requests, row, &kept)?;
@@ -119,7 +121,7 @@ fn tell_stream(
     stream: &[u8],
     tally: &mut Tally,
 ) -> io::Result<()>
-    requires of { AreOf catalogue.now requests.now }
+    requires of { IsRequestTableOf catalogue.now requests.now }
 {
     let is_as_told = is_dumped_each_way(rt, catalogue, requests, row, stream)?;
     tally.count(is_as_told);

@@ -1,10 +1,10 @@
 //! How a row is dumped in every way: whole, in pieces, ended early, to outs that fail, and saved and loaded.
 
-ghost use Rattle.giop_stream.specs.EngineHolds.{AreOf};
+ghost use Rattle.giop_stream.specs.EngineHolds.{IsRequestTableOf};
 
 use super::difference::{Difference, compare, compare_front};
 use super::early::Early;
-use super::engine::engine_for;
+use super::engine::{engine_for, loaded};
 use super::faulty::Narrow;
 use super::loading::is_loaded;
 use super::row::Row;
@@ -24,7 +24,7 @@ pub fn is_dumped_each_way(
     row: &Row,
     stream: &[u8],
 ) -> io::Result<bool>
-    requires of { AreOf catalogue.now requests.now }
+    requires of { IsRequestTableOf catalogue.now requests.now }
 {
     for way in [Way::Whole, Way::Narrow] {
         if !is_dumped(
@@ -54,7 +54,7 @@ fn is_dumped_cut(
     row: &Row,
     stream: &[u8],
 ) -> io::Result<bool>
-    requires of { AreOf catalogue.now requests.now }
+    requires of { IsRequestTableOf catalogue.now requests.now }
 {
     for at in 0..stream.len() + 1 {
         for way in Way::at(at) {
@@ -80,7 +80,7 @@ fn is_dumped_early(
     row: &Row,
     stream: &[u8],
 ) -> io::Result<bool>
-    requires of { AreOf catalogue.now requests.now }
+    requires of { IsRequestTableOf catalogue.now requests.now }
 {
     if row.early.is_empty() {
         return Ok(true);
@@ -112,7 +112,7 @@ fn is_dumped_alike(
     from: usize,
     count: usize,
 ) -> io::Result<bool>
-    requires of { AreOf catalogue.now requests.now }
+    requires of { IsRequestTableOf catalogue.now requests.now }
 {
     for at in from..from.saturating_add(count) {
         let ended = is_dumped_to(
@@ -142,7 +142,7 @@ fn is_dumped_alike(
 /// Ends the stream of a row after this number of octets.
 fn is_dumped_to(
     rt: &HostRuntime,
-    engine: Engine,
+    engine: Box<Engine>,
     row: &Row,
     stream: &[u8],
     early: &Early,
@@ -163,7 +163,7 @@ fn is_dumped_to(
 /// on.
 fn is_dumped_up_to(
     rt: &HostRuntime,
-    engine: Engine,
+    engine: Box<Engine>,
     row: &Row,
     stream: &[u8],
     early: &Early,
@@ -191,7 +191,7 @@ fn is_dumped_over_failing(
     row: &Row,
     stream: &[u8],
 ) -> io::Result<bool>
-    requires of { AreOf catalogue.now requests.now }
+    requires of { IsRequestTableOf catalogue.now requests.now }
 {
     for puts in 0..row.lines.len() {
         let way = Way::Failing(puts);
@@ -223,7 +223,7 @@ enum Failed {
 /// Dumps a row to an out that fails.
 fn dumped_over(
     rt: &HostRuntime,
-    engine: Engine,
+    engine: Box<Engine>,
     row: &Row,
     stream: &[u8],
     way: Way,
@@ -257,7 +257,7 @@ fn is_front(rt: &HostRuntime, row: &Row, way: Way, written: &[u8], status: u8) -
 /// Dumps a row in one way.
 fn is_dumped(
     rt: &HostRuntime,
-    engine: Engine,
+    engine: Box<Engine>,
     row: &Row,
     stream: &[u8],
     way: Way,
@@ -270,7 +270,12 @@ fn is_dumped(
 
 /// Dumps a stream in one way, to a writer to a sheet. All ways use one type of out, because the engine is compiled for each
 /// type.
-fn dump(engine: Engine, stream: &[u8], way: Way, sheet: &mut Sheet) -> Result<Totals, RunFault> {
+fn dump(
+    engine: Box<Engine>,
+    stream: &[u8],
+    way: Way,
+    sheet: &mut Sheet,
+) -> Result<Totals, RunFault> {
     let (width, puts) = way.puts();
     way.dump(
         engine,

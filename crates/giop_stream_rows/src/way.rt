@@ -43,7 +43,7 @@ impl Way {
     /// Dumps a stream.
     pub fn dump<O: Out>(
         self,
-        engine: Engine,
+        engine: Box<Engine>,
         stream: &[u8],
         out: &mut O,
     ) -> Result<Totals, RunFault> {
@@ -81,19 +81,24 @@ fn front(stream: &[u8], at: usize) -> &[u8] {
 fn finished<S: Source, O: Out>(
     source: &mut S,
     out: &mut O,
-    engine: Engine,
+    engine: Box<Engine>,
 ) -> Result<Totals, RunFault> {
-    match run(source, out, engine, Ending::Finish) {
+    match run(source, out, Box::into_inner(engine), Ending::Finish) {
         Ok(report) => Ok(report.totals),
         Err(fault) => Err(fault),
     }
 }
 
-fn read<O: Out>(engine: Engine, octets: Octets, out: &mut O) -> Result<Totals, RunFault> {
+fn read<O: Out>(engine: Box<Engine>, octets: Octets, out: &mut O) -> Result<Totals, RunFault> {
     finished(&mut Reading::new(octets), out, engine)
 }
 
-fn cut<O: Out>(engine: Engine, stream: &[u8], at: usize, out: &mut O) -> Result<Totals, RunFault> {
+fn cut<O: Out>(
+    engine: Box<Engine>,
+    stream: &[u8],
+    at: usize,
+    out: &mut O,
+) -> Result<Totals, RunFault> {
     let mut engine = engine;
     let (front, rest) = stream.split_at(at.min(stream.len()));
     match engine.feed(front, out) {
@@ -106,7 +111,7 @@ fn cut<O: Out>(engine: Engine, stream: &[u8], at: usize, out: &mut O) -> Result<
 }
 
 fn pieces<O: Out>(
-    engine: Engine,
+    engine: Box<Engine>,
     stream: &[u8],
     step: usize,
     out: &mut O,
@@ -116,7 +121,7 @@ fn pieces<O: Out>(
 }
 
 /// Feeds a stream. If a put fails, the engine has failed; then it is fed once more and finished, and both must fail.
-fn failing<O: Out>(engine: Engine, stream: &[u8], out: &mut O) -> Result<Totals, RunFault> {
+fn failing<O: Out>(engine: Box<Engine>, stream: &[u8], out: &mut O) -> Result<Totals, RunFault> {
     let mut engine = engine;
     match engine.feed(stream, out) {
         Ok(_) => {}

@@ -1,9 +1,10 @@
 //! After which octets of a stream the reading stops for a correspondent, and which message has
 //! begun in them.
 
-ghost use Rattle.giop_stream.specs.EngineHolds.{AreOf};
+ghost use Rattle.giop_stream.specs.EngineHolds.{IsRequestTableOf};
 
-use super::known::declared;
+use super::expecting::expect_none;
+use super::known::{self, Asked, BUILT_IN, engine};
 use super::waiting::Timer;
 use giop_message_tests::waiter::Waiter;
 use giop_print::Sheet;
@@ -11,7 +12,6 @@ use giop_sig::{Catalogue, Requests};
 use giop_stream::{Engine, Fed, Stop, answers_at_headers, answers_go_on};
 use giop_testing::spelled;
 use std::alloc::Global;
-use std::test::Fail;
 
 /// A stream; whether its correspondent awaits only messages, or only what it is told of a Reply;
 /// and after how many octets the reading stops: at three places, each with the number of the
@@ -24,7 +24,7 @@ struct Row {
     stops: [(usize, Option<u64>); 3],
 }
 
-const ROWS: [Row; 10] = [
+static ROWS: [Row; 10] = [
     Row {
         name: "three headers of 12 octets, which begin messages",
         awaits_messages: true,
@@ -127,33 +127,39 @@ fn stops_differ(engine: &mut Engine<'_>, row: &Row, is_cut: bool) -> &'static st
     }
 }
 
-/// What differs for a row, if the engine has read nothing before. The text is empty if nothing
-/// differs.
+/// The first row in which something differs, if the engine has read nothing before it. The text is
+/// empty if nothing differs.
+pub fn differs(alloc: Global, catalogue: &Catalogue, requests: &Requests) -> &'static str
+    requires { IsRequestTableOf catalogue.now requests.now }
+{
+    for row in &ROWS {
+        for is_cut in [false, true] {
+            if row_differs(alloc, catalogue, requests, row, is_cut) {
+                return row.name;
+            }
+        }
+    }
+    ""
+}
+
 fn row_differs(
     alloc: Global,
     catalogue: &Catalogue,
     requests: &Requests,
     row: &Row,
     is_cut: bool,
-) -> &'static str
-    requires { AreOf catalogue.now requests.now }
+) -> bool
+    requires { IsRequestTableOf catalogue.now requests.now }
 {
-    let Ok(mut engine) = Engine::new(alloc, catalogue, requests, 16) else {
-        return "the memory";
-    };
-    stops_differ(&mut engine, row, is_cut)
+    match engine(alloc, catalogue, requests, 16) {
+        Some(mut engine) => !stops_differ(&mut engine, row, is_cut).is_empty(),
+        None => true,
+    }
 }
 
 #[test]
-fn a_stream_stops_where_its_correspondent_is_due(rt: HostRuntime) -> Result<(), Fail> {
-    let known = declared(rt.alloc(), b"signatures 1;\n")?;
-    for row in &ROWS {
-        for is_cut in [false, true] {
-            let differs = row_differs(rt.alloc(), &known.0, &known.1, row, is_cut);
-            assert!(rt; differs.is_empty(), "{}, cut {is_cut}: {differs}", row.name);
-        }
-    }
-    Ok(())
+fn a_stream_stops_where_its_correspondent_is_due(rt: HostRuntime) {
+    expect_none(&rt, known::differs(rt.alloc(), BUILT_IN, Asked::Stops));
 }
 
 #[test]

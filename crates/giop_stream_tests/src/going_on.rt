@@ -1,13 +1,13 @@
 //! A stream that is read from its checkpoint to its end.
 
-ghost use Rattle.giop_stream.specs.EngineHolds.{AreOf};
+ghost use Rattle.giop_stream.specs.EngineHolds.{IsRequestTableOf};
 
-use super::known::{DECLARED, STREAM, declared};
+use super::expecting::expect_none;
+use super::known::{self, Asked, DECLARED, STREAM, engine};
 use giop_print::Sheet;
 use giop_sig::{Catalogue, Requests};
 use giop_stream::{Engine, LoadFault, Totals, go_on, has_checkpoint};
 use std::alloc::Global;
-use std::test::Fail;
 
 /// The Fragments that end the two Requests of the stream. The first Request has two, and the
 /// Fragment of the second comes between them.
@@ -38,31 +38,42 @@ const TOTALS: Totals = Totals {
     octets: 152,
 };
 
-/// What differs if the stream is read on from its checkpoint, and from a checkpoint without its
-/// last octet. The text is empty if nothing differs.
+/// What differs if the stream is read on from its checkpoint. The text is empty if nothing
+/// differs.
 fn rest_differs(
     alloc: Global,
     catalogue: &Catalogue,
     requests: &Requests,
     checkpoint: &[u8],
 ) -> &'static str
-    requires { AreOf catalogue.now requests.now }
+    requires { IsRequestTableOf catalogue.now requests.now }
 {
     let mut room = [0; 2048];
     let mut out = Sheet::new(&mut room);
     if go_on(alloc, catalogue, requests, checkpoint, REST, &mut out) != Ok(Ok(TOTALS)) {
         return "the totals";
     }
-    if out.held() != LINES {
-        return "the lines";
-    }
+    if out.held() == LINES { "" } else { "the lines" }
+}
+
+/// What differs if the stream is read on from a checkpoint without its last octet.
+fn short_differs(
+    alloc: Global,
+    catalogue: &Catalogue,
+    requests: &Requests,
+    checkpoint: &[u8],
+) -> &'static str
+    requires { IsRequestTableOf catalogue.now requests.now }
+{
     let Some((_, short)) = checkpoint.split_last() else {
         return "the octets";
     };
+    let mut room = [0; 2048];
+    let mut out = Sheet::new(&mut room);
     if go_on(alloc, catalogue, requests, short, REST, &mut out) != Err(LoadFault::Length) {
         return "the refusal";
     }
-    if out.held() == LINES {
+    if out.held().is_empty() {
         ""
     } else {
         "the lines of a refusal"
@@ -70,30 +81,35 @@ fn rest_differs(
 }
 
 /// What differs if the stream is read, saved and read on. The text is empty if nothing differs.
-fn going_on_differs(alloc: Global, catalogue: &Catalogue, requests: &Requests) -> &'static str
-    requires { AreOf catalogue.now requests.now }
+pub fn differs(alloc: Global, catalogue: &Catalogue, requests: &Requests) -> &'static str
+    requires { IsRequestTableOf catalogue.now requests.now }
 {
-    let mut room = [0; 2048];
-    let mut sheet = Sheet::new(&mut room);
-    let Ok(mut engine) = Engine::new(alloc, catalogue, requests, 16) else {
+    let Some(mut engine) = engine(alloc, catalogue, requests, 16) else {
         return "the memory";
     };
-    if engine.feed(STREAM, &mut sheet).is_err() {
-        return "the feed";
-    }
-    has_checkpoint(&engine);
     let mut octets = [0; 2048];
     let mut saved = Sheet::new(&mut octets);
-    if engine.save(&mut saved).is_err() {
+    if !is_saved(&mut engine, &mut saved) {
         return "the save";
     }
-    rest_differs(alloc, catalogue, requests, saved.held())
+    let differs = rest_differs(alloc, catalogue, requests, saved.held());
+    if differs.is_empty() {
+        short_differs(alloc, catalogue, requests, saved.held())
+    } else {
+        differs
+    }
+}
+
+/// Whether an engine reads the stream and is saved.
+fn is_saved(engine: &mut Engine<'_>, saved: &mut Sheet) -> bool {
+    let mut room = [0; 2048];
+    let mut sheet = Sheet::new(&mut room);
+    let is_fed = engine.feed(STREAM, &mut sheet).is_ok();
+    has_checkpoint(engine);
+    is_fed && engine.save(saved).is_ok()
 }
 
 #[test]
-fn a_stream_is_read_on_from_its_checkpoint_to_its_end(rt: HostRuntime) -> Result<(), Fail> {
-    let known = declared(rt.alloc(), DECLARED)?;
-    let differs = going_on_differs(rt.alloc(), &known.0, &known.1);
-    assert!(rt; differs.is_empty(), "{differs}");
-    Ok(())
+fn a_stream_is_read_on_from_its_checkpoint_to_its_end(rt: HostRuntime) {
+    expect_none(&rt, known::differs(rt.alloc(), DECLARED, Asked::GoingOn));
 }

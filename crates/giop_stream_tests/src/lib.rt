@@ -5,6 +5,8 @@
 #[cfg(test)]
 mod due;
 #[cfg(test)]
+mod expecting;
+#[cfg(test)]
 mod going_on;
 #[cfg(test)]
 mod known;

@@ -1,18 +1,13 @@
 //! How many messages may be open at once: from one to 4,096.
 
-ghost use Rattle.std.specs.Prelude.{◌≤◌};
-ghost use Rattle.giop_stream.specs.Rules.{most_open};
-ghost use Rattle.giop_stream.specs.EngineHolds.{AreOf};
+ghost use Rattle.giop_stream.specs.EngineHolds.{IsRequestTableOf};
 
-use super::known::declared;
+use super::expecting::expect_none;
+use super::known::{self, Asked, BUILT_IN, engine};
 use giop_print::Sheet;
 use giop_sig::{Catalogue, Requests};
 use giop_stream::Engine;
 use std::alloc::Global;
-use std::test::Fail;
-
-/// A signature file that declares nothing.
-const BUILT_IN: &[u8] = b"signatures 1;\n";
 
 /// A 1.2 Request with this id, which fragments follow.
 fn opener(id: u32) -> [u8; 16] {
@@ -53,59 +48,52 @@ fn is_next_faulted(engine: &mut Engine<'_>) -> bool {
 }
 
 /// Whether the closing lines begin and end with the two texts above.
-fn are_unfinished(engine: Engine<'_>) -> bool {
+fn are_unfinished(engine: Box<Engine<'_>>) -> bool {
     let mut room = [0; 70_000];
     let mut sheet = Sheet::new(&mut room);
-    engine.finish(&mut sheet).is_ok()
+    Box::into_inner(engine).finish(&mut sheet).is_ok()
         && sheet.held().len() == 68_567
         && sheet.held().starts_with(FIRST_UNFINISHED)
         && sheet.held().ends_with(LAST_UNFINISHED)
 }
 
-/// What differs if 4,097 messages begin. The text is empty if nothing differs.
-fn differs(alloc: Global, catalogue: &Catalogue, requests: &Requests) -> &'static str
-    requires { AreOf catalogue.now requests.now }
+/// What differs if an engine in which one message may be open is made, and if 4,097 messages begin.
+/// The text is empty if nothing differs.
+pub fn differs(alloc: Global, catalogue: &Catalogue, requests: &Requests) -> &'static str
+    requires { IsRequestTableOf catalogue.now requests.now }
 {
-    let Ok(mut engine) = Engine::new(alloc, catalogue, requests, 4096) else {
-        return "the memory";
-    };
-    if !are_open(&mut engine) {
-        return "the open ones";
+    if !is_made(alloc, catalogue, requests) {
+        return "the least engine";
     }
-    if !is_next_faulted(&mut engine) {
-        return "the next";
+    match engine(alloc, catalogue, requests, 4096) {
+        Some(mut engine) => {
+            if !are_open(&mut engine) {
+                return "the open ones";
+            }
+            if !is_next_faulted(&mut engine) {
+                return "the next";
+            }
+            if are_unfinished(engine) {
+                ""
+            } else {
+                "the closing lines"
+            }
+        }
+        None => "the memory",
     }
-    if are_unfinished(engine) {
-        ""
-    } else {
-        "the closing lines"
+}
+
+/// Whether an engine in which one message may be open can be made, and has read nothing.
+fn is_made(alloc: Global, catalogue: &Catalogue, requests: &Requests) -> bool
+    requires of { IsRequestTableOf catalogue.now requests.now }
+{
+    match engine(alloc, catalogue, requests, 1) {
+        Some(engine) => engine.totals().octets == 0 && !engine.is_failed(),
+        None => false,
     }
 }
 
 #[test]
-fn where_4096_are_open_the_next_is_faulted(rt: HostRuntime) -> Result<(), Fail> {
-    let known = declared(rt.alloc(), BUILT_IN)?;
-    let differs = differs(rt.alloc(), &known.0, &known.1);
-    assert!(rt; differs.is_empty(), "{differs}");
-    Ok(())
-}
-
-/// Whether an engine in which this many messages may be open can be made, and has read nothing.
-fn is_made(alloc: Global, catalogue: &Catalogue, requests: &Requests, most: u32) -> bool
-    requires of { AreOf catalogue.now requests.now }
-    requires range { (1 ≤ most) × (most ≤ most_open) }
-{
-    match Engine::new(alloc, catalogue, requests, most) {
-        Ok(engine) => engine.totals().octets == 0 && !engine.is_failed(),
-        Err(_) => false,
-    }
-}
-
-#[test]
-fn an_engine_is_made_where_there_is_memory(rt: HostRuntime) -> Result<(), Fail> {
-    let known = declared(rt.alloc(), BUILT_IN)?;
-    let are_made = is_made(rt.alloc(), &known.0, &known.1, 1)
-        && is_made(rt.alloc(), &known.0, &known.1, 4096);
-    assert!(rt; are_made);
-    Ok(())
+fn where_4096_are_open_the_next_is_faulted(rt: HostRuntime) {
+    expect_none(&rt, known::differs(rt.alloc(), BUILT_IN, Asked::Limits));
 }

@@ -1,13 +1,13 @@
 //! A user's own `Out` for the engine, which counts lines. docs/LIBRARY.md shows it.
 
-ghost use Rattle.std.specs.Prelude.{IfOk};
-ghost use Rattle.giop_stream.specs.EngineHolds.{AreOf};
+ghost use Rattle.giop_stream.specs.EngineHolds.{IsRequestTableOf};
 
+use super::expecting::expect_none;
+use super::known::{self, Asked, BUILT_IN, engine};
 use giop_print::{Out, OutFault};
 use giop_sig::{Catalogue, Requests};
 use giop_stream::{Engine, Stop};
 use std::alloc::Global;
-use std::test::Fail;
 
 /// Counts the lines that are put to it, and keeps no text of them.
 #[derive(Drop)]
@@ -21,7 +21,7 @@ impl Out for LineCount {
 
     ghost log = { λ c. record { written = None; puts = c.puts; failures = 0 } };
 
-    #[tactic(auto, unfolding(giop_print::specs::Output::counted))]
+    #[tactic(auto, unfolding(giop_print::specs::Output::saturating_next))]
     fn put(&mut self, octets: &[u8]) -> Result<usize, OutFault> {
         self.puts = self.puts.saturating_add(1);
         self.lines = self.lines.saturating_add(line_feeds(octets));
@@ -46,24 +46,27 @@ fn lines_of(engine: Engine<'_>, stream: &[u8]) -> Result<u64, Stop> {
     Ok(out.lines)
 }
 
-/// The catalogue of the built-in types, and no requests.
-fn built_in(alloc: Global) -> Result<(Catalogue, Requests), Fail>
-    ensures { IfOk result (λ known. AreOf known.0 known.1) }
-{
-    let catalogue = Catalogue::builtin(alloc)?;
-    let requests = Requests::parse(alloc, b"", &catalogue)?;
-    Ok((catalogue, requests))
-}
-
 /// A header of CloseConnection in GIOP 1.0, big endian, without a payload; and the front of another
 /// header.
 const CLOSED: &[u8] = b"GIOP\x01\x00\x00\x05\x00\x00\x00\x00GIOP";
 
+/// What differs in the number of lines. The text is empty if nothing differs.
+pub fn differs(alloc: Global, catalogue: &Catalogue, requests: &Requests) -> &'static str
+    requires { IsRequestTableOf catalogue.now requests.now }
+{
+    match engine(alloc, catalogue, requests, 16) {
+        Some(engine) => {
+            if lines_of(Box::into_inner(engine), CLOSED) == Ok(4) {
+                ""
+            } else {
+                "the lines"
+            }
+        }
+        None => "the memory",
+    }
+}
+
 #[test]
-fn lines_are_counted(rt: HostRuntime) -> Result<(), Fail> {
-    let known = built_in(rt.alloc())?;
-    let engine = Engine::new(rt.alloc(), &known.0, &known.1, 16)?;
-    let lines = lines_of(engine, CLOSED);
-    assert!(rt; lines == Ok(4));
-    Ok(())
+fn lines_are_counted(rt: HostRuntime) {
+    expect_none(&rt, known::differs(rt.alloc(), BUILT_IN, Asked::OwnOut));
 }

@@ -11,26 +11,26 @@ use Rattle.giop_checkpoint.specs.Fixed.{magic, counts_octets, state_octets, fixe
 use Rattle.giop_print.specs.Text.{hex, hex_number, escaped}
 use Rattle.giop_print.specs.Lines.{type_word, continues_line, cancelled_line, fault_line, stream_fault_line, unfinished_line, total_line}
 use Rattle.giop_print.specs.Lines as print
-use Rattle.giop_sig.specs.Trees.{tree_at, wide_at}
-use Rattle.giop_sig.specs.AnyTypes.{any_types, third_types}
+use Rattle.giop_sig.specs.Trees.{tree_at, has_wide_text_within}
+use Rattle.giop_sig.specs.AnyTypes.{any_types, version_3_types}
 use Rattle.giop_sig.specs.Builtin.{builtin_types}
 use Rattle.giop_decode.specs.Pieces.{block, number}
 use Rattle.giop_decode.specs.Spelling.{path_text}
-use Rattle.giop_message.specs.Headers.{minor, kind, order, has_more, size, may_be_fragmented, is_opener, is_fragment, is_cancel}
+use Rattle.giop_message.specs.Headers.{minor, kind, order, has_more, size, may_be_fragmented, is_opener_1_2, is_fragment_1_2, is_cancel_request}
 use Rattle.giop_message.specs.Text.{numbered_line, value_line_text, call_text, rest_text}
 use Rattle.giop_message.specs.Signatures.{signatures_of}
 use Rattle.giop_message.specs.Messages as one
-use Rattle.giop_message.specs.Messages.{line_at, is_shown, call_of, calls, with_front, section_then, rest_in, rest, typed, option_typed, members_of, after_exception, body, type_if, request_body, result_body, reply_body, locate_body, is_request, body_of, is_aligned, padded, after_header, of_header, message, body_may_be_missing, close, message_lines, message_marks, stage_of}
-use Rattle.giop_message.specs.ReaderOfTable.{line_class_of, text_of, remarks_by, closes_by}
+use Rattle.giop_message.specs.Messages.{line_at, is_graphic_name, call_line_if_named, call_lines_after, with_front, section_then, read_rest_in_parts, read_rest, read_typed, read_typed_if_some, members_of, read_after_exception, read_body, typed_if_some, request_body, result_body, reply_body, locate_body, is_request, body_of, has_aligned_body, read_padding_and_body, read_after_header, read_header_and_rest, read_message, body_may_be_missing, lines_of_close, message_lines, message_marks, stage_of}
+use Rattle.giop_message.specs.ReaderOfTable.{line_class_of, text_of, timed_lines_by, lines_of_close_by}
 use Rattle.giop_sig.specs.Interfaces.{longest_front}
-use Rattle.giop_stream.specs.HeaderOctets.{fronts, wrong, first_wrong, first_wrong_octet}
-use Rattle.giop_stream.specs.Framing.{with_first, cut_from, limit, limited, cut, messages, read_of}
-use Rattle.giop_stream.specs.Kinds.{is_old_opener, is_old_fragment, is_old, has_fragments, is_any_fragment, named_at, is_short, may_be_cancelled, refused}
-use Rattle.giop_stream.specs.Events.{place, own, event_of_open, pending, id, key, opener_of, has_named, goes_past, events_of_octet, events_of, changed, opened, before_by, events_from, events, open_after, octet, joined, phase_from, phase_of, mixes, has_ended, header_events, payload_events, naming_events, message_end_events}
+use Rattle.giop_stream.specs.HeaderOctets.{fronts, last_octet_fault, first_front_fault, first_wrong_octet}
+use Rattle.giop_stream.specs.Framing.{with_first, cut_from, limit, limited, cut, messages, octets_read}
+use Rattle.giop_stream.specs.Kinds.{is_opener_1_1, is_fragment_1_1, is_fragmented_1_1, has_fragments, is_any_fragment, lookup_offset, is_too_short_for_id, may_be_cancelled, header_fault}
+use Rattle.giop_stream.specs.Events.{place, own_event, event_of_open, open_message_1_1, id, key, opener_of, is_named_fragment, has_joined_octets, events_of_octet, events_of, open_after_event, open_after_events, before_by, events_from, events, open_after, octets_of_event, joined_octets, phase_from, phase_of, ends_joining, has_ended, header_events, payload_events, naming_events, message_end_events}
 use Rattle.giop_stream.specs.Rules.{asks_by}
-use Rattle.giop_stream.specs.Lines.{classes, line, lines_of_event, lines_of_events, by_class, in_order, is_last_of, up_to_last_line, lines_of_messages, stop_line, lines}
+use Rattle.giop_stream.specs.Lines.{classes, line, lines_of_event, lines_of_events, by_class, in_order, is_last_line_of, up_to_last_line, lines_of_messages, stop_line, lines}
 use Rattle.giop_stream.specs.Text.{start_line, lines_text}
-use Rattle.giop_stream.specs.Stream.{text, start_count, fault_count, tally, is_inside, is_truncated, is_over, first_messages, unfinished, final, closing}
+use Rattle.giop_stream.specs.Stream.{text, start_count, fault_count, totals_so_far, ends_inside, is_truncated, is_over, first_messages, unfinished, final, closing}
 use Rattle.giop_checkpoint.specs.declared.fault.StreamFault.TheVariants.{Magic}
 use Rattle.giop_checkpoint.specs.declared.layout.Layout.TheVariants.{Second, Third}
 use Rattle.giop_stream.specs.declared.slots.Slots.{Slots}
@@ -40,39 +40,54 @@ use Rattle.giop_stream.specs.EngineView.{FramingView}
 use Rattle.giop_stream.specs.EngineState.{owner_of_next, state_of}
 use Rattle.giop_stream.specs.ViewOfState.{payload_count_in}
 use Rattle.giop_stream.specs.Checkpoint.{counts_of, fixed_of, checkpoint_octets}
-use Rattle.giop_stream_worked.specs.Worked.{digit, octets, stream, written, read_by, called, table_of, builtin, puts, bigs, tris, late, asks, kept}
-use Rattle.giop_stream_worked.specs.Streams.{CloseConnection, LittleRequest, Interleaved, Joined, OpenTwice, OneOpen, Cancelled, Replied, Raised, CodeSets, CodeSetsCutShort, Profile}
-use Rattle.giop_stream_worked.specs.Checkpoints.{five_octets, one_in_payload, bad_magic, InAHeader, InAnOldHeader, InAPayload, BehindAFault}
+use Rattle.giop_stream_worked.specs.Worked.{digit, hex_octets, hex_stream, with_line_feeds, read_by, operation_of_structs, table_of, builtin, put_table, big_table, tri_table, late_exception, ask_table, ask_requests}
+use Rattle.giop_stream_worked.specs.Streams.{CloseConnection, LittleRequest, Interleaved, JoinedFragment, SameIdTwice, OneMayBeOpen, Cancelled, Replied, Raised, CodeSets, CodeSetsCutShort, Profile}
+use Rattle.giop_stream_worked.specs.Checkpoints.{five_octets, one_in_payload, bad_magic, CheckpointInHeader, CheckpointInLayout2, CheckpointInPayload, CheckpointAfterFault}
 
 -- a name for the list of the definitions that are unfolded to read one message
 unfoldable pub one_message : ℕ
 unfolding digits num twos_complement padding block number path_text hex hex_number escaped tree_at
-    wide_at builtin_types any_types third_types minor kind order value_line_text call_text rest_text
-    signatures_of line_at is_shown call_of calls one.section_lines with_front section_then rest_in
-    rest typed option_typed members_of after_exception body type_if request_body result_body
-    reply_body locate_body is_request body_of is_aligned padded after_header of_header message
-    body_may_be_missing close message_lines message_marks stage_of line_class_of text_of remarks_by
-    closes_by longest_front
+    has_wide_text_within builtin_types any_types version_3_types minor kind order value_line_text
+    call_text rest_text
+    signatures_of line_at is_graphic_name call_line_if_named call_lines_after one.section_lines
+    with_front section_then read_rest_in_parts
+    read_rest read_typed read_typed_if_some members_of read_after_exception read_body typed_if_some
+    request_body result_body
+    reply_body locate_body is_request body_of has_aligned_body read_padding_and_body
+    read_after_header read_header_and_rest read_message
+    body_may_be_missing lines_of_close message_lines message_marks stage_of line_class_of text_of
+    timed_lines_by
+    lines_of_close_by longest_front
 one_message = 0
 
 -- a name for the list of the definitions that are unfolded to cut a stream and to write its lines
 unfoldable pub a_stream : ℕ
 unfolding type_word print.start_line continues_line cancelled_line fault_line stream_fault_line
-    unfinished_line total_line fronts wrong first_wrong first_wrong_octet has_more size with_first
-    cut_from limit limited cut messages read_of start_line numbered_line is_inside is_truncated
-    may_be_fragmented is_opener is_fragment is_cancel is_old_opener is_old_fragment is_old
-    has_fragments is_any_fragment named_at is_short may_be_cancelled refused place own
-    event_of_open pending id key opener_of has_named goes_past header_events payload_events
-    naming_events message_end_events events_of_octet events_of changed opened before_by events_from
-    events open_after octet joined phase_from phase_of mixes has_ended asks_by classes line
-    lines_of_event lines_of_events by_class in_order is_last_of up_to_last_line lines_of_messages
-    stop_line lines lines_text text start_count fault_count tally is_over first_messages unfinished
+    unfinished_line total_line fronts last_octet_fault first_front_fault first_wrong_octet has_more
+    size with_first
+    cut_from limit limited cut messages octets_read start_line numbered_line ends_inside
+    is_truncated
+    may_be_fragmented is_opener_1_2 is_fragment_1_2 is_cancel_request is_opener_1_1 is_fragment_1_1
+    is_fragmented_1_1
+    has_fragments is_any_fragment lookup_offset is_too_short_for_id may_be_cancelled header_fault
+    place own_event
+    event_of_open open_message_1_1 id key opener_of is_named_fragment has_joined_octets
+    header_events payload_events
+    naming_events message_end_events events_of_octet events_of open_after_event open_after_events
+    before_by events_from
+    events open_after octets_of_event joined_octets phase_from phase_of ends_joining has_ended
+    asks_by classes line
+    lines_of_event lines_of_events by_class in_order is_last_line_of up_to_last_line
+    lines_of_messages
+    stop_line lines lines_text text start_count fault_count totals_so_far is_over first_messages
+    unfinished
     final closing
 a_stream = 0
 
 -- a name for the list of the definitions in which the rows are stated
 unfoldable pub told_with : ℕ
-unfolding digit octets stream written read_by called table_of builtin puts bigs tris late asks kept
+unfolding digit hex_octets hex_stream with_line_feeds read_by operation_of_structs table_of builtin
+    put_table big_table tri_table late_exception ask_table ask_requests
 told_with = 0
 
 pub close_connection : CloseConnection
@@ -87,15 +102,15 @@ pub interleaved : Interleaved
 unfolding one_message a_stream told_with
 interleaved = record { text = refl; closing = refl }
 
-pub joined_old : Joined
+pub joined_old : JoinedFragment
 unfolding one_message a_stream told_with
 joined_old = record { text = refl; closing = refl }
 
-pub open_twice : OpenTwice
+pub open_twice : SameIdTwice
 unfolding one_message a_stream told_with
 open_twice = record { text = refl; closing = refl }
 
-pub one_open : OneOpen
+pub one_open : OneMayBeOpen
 unfolding one_message a_stream told_with
 one_open = record { text = refl; closing = refl }
 
@@ -168,8 +183,8 @@ in_payload = record {
   slots = no_messages 1;
 }
 
-behind_fault : FramingView
-behind_fault = record {
+stopped_view : FramingView
+stopped_view = record {
   totals = record { messages = 1; faults = 1; octets = 15 };
   stopped = Some Magic;
   header = [];
@@ -177,7 +192,7 @@ behind_fault = record {
   slots = no_messages 4096;
 }
 
-pub in_a_header : InAHeader
+pub in_a_header : CheckpointInHeader
 unfolding one_message a_stream told_with a_checkpoint no_messages in_header
 in_a_header = record {
   layout = Third;
@@ -199,7 +214,7 @@ in_a_header = record {
   ready = record { current_ready = tt; each_ready = tt };
 }
 
-pub in_an_old_header : InAnOldHeader
+pub in_an_old_header : CheckpointInLayout2
 unfolding one_message a_stream told_with a_checkpoint no_messages in_header
 in_an_old_header = record {
   layout = Second;
@@ -221,7 +236,7 @@ in_an_old_header = record {
   ready = record { current_ready = tt; each_ready = tt };
 }
 
-pub in_a_payload : InAPayload
+pub in_a_payload : CheckpointInPayload
 unfolding one_message a_stream told_with a_checkpoint no_messages in_payload
 in_a_payload = record {
   layout = Third;
@@ -243,12 +258,12 @@ in_a_payload = record {
   ready = record { current_ready = tt; each_ready = tt };
 }
 
-pub behind_a_fault : BehindAFault
-unfolding one_message a_stream told_with a_checkpoint no_messages behind_fault
-behind_a_fault = record {
+pub after_a_fault : CheckpointAfterFault
+unfolding one_message a_stream told_with a_checkpoint no_messages stopped_view
+after_a_fault = record {
   layout = Third;
   is_read = refl;
-  memory = behind_fault;
+  memory = stopped_view;
   entries = [];
   octets_are = refl;
   allows = (omega arith, omega arith);

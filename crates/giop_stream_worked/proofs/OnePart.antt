@@ -4,12 +4,12 @@ use Rattle.giop_sig.specs.Fits.{IsFit}
 use Rattle.giop_sig.specs.Types.{Ty, Struct, Sequence, Array, Recursive, part_of}
 use Rattle.giop_decode.specs.ReadResult.{Leaf}
 use Rattle.giop_decode.specs.Fits.{FitsIn, HasParts}
-use Rattle.giop_decode.specs.Transitions.{part_in, IsWithin}
+use Rattle.giop_decode.specs.Transitions.{part_in, FrameIndexFits}
 
 -- A type of one part; the part has begun and fits. `leaf` is what was read of it.
 pub one_part : (d : ℕ) (T : Ty) (leaf : Leaf) → HasParts T 1 → IsFit d (part_of T 0) →
     FitsIn (part_of T 0) [] leaf →
-    IsFit (suc d) T × FitsIn T (part_in T 0 1 ∷ []) leaf × IsWithin None 0 1 T
+    IsFit (suc d) T × FitsIn T (part_in T 0 1 ∷ []) leaf × FrameIndexFits None 0 1 T
 unfolding IsFit
 one_part d (Struct n names parts) leaf kind fit fits = (
   (omega (arith, kind), one),

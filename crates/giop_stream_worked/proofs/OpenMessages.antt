@@ -16,9 +16,9 @@ use Rattle.giop_decode.specs.declared.leaf.Leaf.{Leaf as Innermost}
 use Rattle.giop_decode.specs.declared.leaf.Leaf.TheVariants as innermost
 use Rattle.giop_decode.specs.declared.notes.Buffer.TheVariants as buffers
 use Rattle.giop_decode.specs.declared.notes.Last.TheVariants as lasts
-use Rattle.giop_decode.specs.ReadResult.{plain, Leaf}
+use Rattle.giop_decode.specs.ReadResult.{message_coding, Leaf}
 use Rattle.giop_decode.specs.Fits.{FitsIn, HasParts}
-use Rattle.giop_decode.specs.Transitions.{part_in, leaf_of, IsWithin}
+use Rattle.giop_decode.specs.Transitions.{part_in, leaf_of, FrameIndexFits}
 use Rattle.giop_decode.specs.DecoderState as decoder
 use Rattle.giop_decode.proofs.ReadingLaws.{fits_depth, within_in_room}
 use Rattle.giop_decode.specs.Stored as decoders
@@ -27,21 +27,21 @@ use Rattle.giop_message.specs.declared.message.Message.{Message}
 use Rattle.giop_message.specs.declared.part.Part.TheVariants as parts
 use Rattle.giop_message.specs.declared.part.Rest.{Rest}
 use Rattle.giop_message.specs.declared.part.Section.TheVariants as sections
-use Rattle.giop_message.specs.Messages.{Said, MessageReading as Reading, message, message_lines, message_marks}
-use Rattle.giop_message.specs.ReaderOfTable.{id_in, first_id, first_request_id}
+use Rattle.giop_message.specs.Messages.{Said, MessageReading as Reading, read_message, message_lines, message_marks}
+use Rattle.giop_message.specs.ReaderOfTable.{request_id_in, first_some, first_request_id}
 use Rattle.giop_message.specs.Signatures.{signatures_of, by_list}
 use Rattle.giop_message.specs.MessageState.{Follows}
 use Rattle.giop_message.specs.Stored as messages
 use Rattle.giop_message.specs.Stored.{Stored}
 use Rattle.giop_checkpoint.specs.Records as records
-use Rattle.giop_checkpoint.specs.Records.{Entry, EntryHasRange}
+use Rattle.giop_checkpoint.specs.Records.{StoredRecord, StoredRecordHasRange}
 use Rattle.giop_checkpoint.specs.declared.record.RecordKind.TheVariants as record_kinds
 use Rattle.giop_checkpoint.specs.declared.layout.Layout.TheVariants.{Third}
 use Rattle.giop_stream.specs.declared.slots.PayloadOwner.TheVariants as owners
 use Rattle.giop_stream.specs.EngineView.{FramingView}
-use Rattle.giop_stream.specs.Checkpoint.{IsHeld}
-use Rattle.giop_stream_worked.specs.Worked.{bigs, table_of}
-use Rattle.giop_stream_worked.specs.Checkpoints.{two_requests, between_messages, in_a_number, behind_a_body, BetweenMessages}
+use Rattle.giop_stream.specs.Checkpoint.{StoresMessage}
+use Rattle.giop_stream_worked.specs.Worked.{big_table, table_of}
+use Rattle.giop_stream_worked.specs.Checkpoints.{two_requests, between_messages, in_a_number, after_a_body, CheckpointBetweenMessages}
 use Rattle.giop_stream_worked.proofs.OnePart.{one_part}
 use Rattle.giop_stream_worked.proofs.Computing.{one_message, a_stream, told_with, a_checkpoint, are_octets}
 
@@ -63,7 +63,7 @@ in_body = record {
   order = orders.Big;
   head = record { message = 1; root = roots.Body };
   at = 4;
-  narrow = false;
+  forbids_wide = false;
   outer = record { items = parameters_frame ∷ [] };
   inside = withins.Nothing;
   leaf = Some number;
@@ -95,7 +95,7 @@ first = record {
   few = omega arith;
 }
 
-first_entry : Entry
+first_entry : StoredRecord
 first_entry = record {
   record_is = record {
     frames = 2;
@@ -104,8 +104,8 @@ first_entry = record {
     header =
         header 40;
   };
-  message = messages.own_octets first ++ decoders.fixed_octets in_body number;
-  frames = decoders.frames_octets (parameters_frame ∷ decoders.own_frame number ∷ []);
+  message = messages.own_octets first ++ decoders.saved_fixed in_body number;
+  frames = decoders.saved_frames (parameters_frame ∷ decoders.leaf_frame number ∷ []);
 }
 
 -- ---- The second Request, which ends after its body. The body has no octets.
@@ -126,7 +126,7 @@ second = record {
   few = omega arith;
 }
 
-second_entry : Entry
+second_entry : StoredRecord
 second_entry = record {
   record_is = record {
     frames = 0;
@@ -179,16 +179,17 @@ unfolding parameters number parameters_frame in_body header nothing builtin_type
 the_decoder = 0
 
 the_messages : ℕ
-unfolding first second first_entry second_entry between id_in first_id first_request_id two_requests
+unfolding first second first_entry second_entry between request_id_in first_some first_request_id
+    two_requests
 the_messages = 0
 
 -- a name for the list of the definitions that are unfolded for the octets of the checkpoint
 its_octets : ℕ
-unfolding decoders.fixed_octets messages.own_octets messages.rest_octets four eight
+unfolding decoders.saved_fixed messages.own_octets messages.rest_octets four eight
 its_octets = 0
 
 its_records : ℕ
-unfolding records.kind_octets records.own_octets between_messages in_a_number behind_a_body
+unfolding records.kind_octets records.own_octets between_messages in_a_number after_a_body
 its_records = 0
 
 kept_messages : ℕ
@@ -232,7 +233,7 @@ second_stored = record {
   part = (record { is = refl; range = ltb-true 0 (2 ^ 64) refl }, refl);
 }
 
-first_held : IsHeld first first_entry
+first_held : StoresMessage first first_entry
 unfolding kept_messages
 first_held = record {
   stored = first_stored;
@@ -240,11 +241,11 @@ first_held = record {
       omega (arith, fits_depth C in_body laws h.fits);
 }
 
-second_held : IsHeld second second_entry
+second_held : StoresMessage second second_entry
 unfolding kept_messages
 second_held = record { stored = second_stored; shallow = λ C laws h. omega arith }
 
-first_range : EntryHasRange first_entry
+first_range : StoredRecordHasRange first_entry
 unfolding kept_messages
 first_range = record {
   own = record {
@@ -259,7 +260,7 @@ first_range = record {
   frames = refl;
 }
 
-second_range : EntryHasRange second_entry
+second_range : StoredRecordHasRange second_entry
 unfolding kept_messages
 second_range = record {
   own = record {
@@ -288,12 +289,14 @@ some_octets : List ℕ
 some_octets = 1 ∷ 2 ∷ 3 ∷ 4 ∷ []
 
 first_reads :
-    decoder.Reads bigs (tree bigs parameters) (plain orders.Big) 48 1 roots.Body in_body some_octets
+    decoder.Reads big_table (tree big_table parameters) (message_coding orders.Big) 48 1 roots.Body
+    in_body
+    some_octets
 unfolding one_message told_with kept_messages some_octets
 first_reads = record {
   lines = [];
   is = refl;
-  narrow = refl;
+  forbids_wide = refl;
   keeps_noted = record {
     request_id = refl;
     status = refl;
@@ -309,7 +312,8 @@ first_reads = record {
 abbrev said_of : Reading → Said
 said_of m = record { lines = message_lines m; marks = message_marks m }
 
-first_follows : Follows bigs (by_list []) unbroken 1 (header 40) first (first_front ++ some_octets)
+first_follows : Follows big_table (by_list []) unbroken 1 (header 40) first (first_front
+    ++ some_octets)
 unfolding one_message told_with kept_messages first_front some_octets
 first_follows = record {
   same_number = refl;
@@ -318,8 +322,9 @@ first_follows = record {
   at = refl;
   counted = λ k. refl;
   stands = record {
-    T = tree bigs parameters;
-    before = said_of (message (signatures_of bigs (by_list [] 1) unbroken) (header 40) first_front);
+    T = tree big_table parameters;
+    before = said_of (read_message (signatures_of big_table (by_list [] 1) unbroken)
+        (header 40) first_front);
     front = first_front;
     octets = some_octets;
     since = refl;
@@ -329,7 +334,7 @@ first_follows = record {
   };
 }
 
-second_follows : Follows bigs (by_list []) unbroken 2 (header 36) second second_octets
+second_follows : Follows big_table (by_list []) unbroken 2 (header 36) second second_octets
 unfolding one_message told_with kept_messages second_octets
 second_follows = record {
   same_number = refl;
@@ -338,7 +343,8 @@ second_follows = record {
   at = refl;
   counted = λ k. refl;
   stands = (
-    said_of (message (signatures_of bigs (by_list [] 2) unbroken) (header 36) second_octets),
+    said_of (read_message (signatures_of big_table (by_list [] 2) unbroken)
+        (header 36) second_octets),
     refl,
   );
 }
@@ -347,48 +353,48 @@ second_follows = record {
 
 -- The parameters have one part, the number. Four octets of it have come.
 
-has_one : HasParts (tree bigs parameters) 1
+has_one : HasParts (tree big_table parameters) 1
 unfolding one_message told_with kept_messages
 has_one = refl
 
-number_fits : IsFit 23 (part_of (tree bigs parameters) 0)
+number_fits : IsFit 23 (part_of (tree big_table parameters) 0)
 unfolding one_message told_with kept_messages IsFit
 number_fits = tt
 
-number_begun : FitsIn (part_of (tree bigs parameters) 0) []
-    (leaf_of bigs (parameters_frame ∷ []) number some_octets [])
+number_begun : FitsIn (part_of (tree big_table parameters) 0) []
+    (leaf_of big_table (parameters_frame ∷ []) number some_octets [])
 unfolding one_message told_with kept_messages some_octets
 number_begun = record { same = refl; kind = tt; room = omega arith }
 
 -- the parameters fit, with what was read of them
 FitsOne : Ty → Leaf → Type 0
-FitsOne T leaf = IsFit 24 T × FitsIn T (part_in T 0 1 ∷ []) leaf × IsWithin None 0 1 T
+FitsOne T leaf = IsFit 24 T × FitsIn T (part_in T 0 1 ∷ []) leaf × FrameIndexFits None 0 1 T
 
-fits_one : FitsOne (tree bigs parameters)
-    (leaf_of bigs (parameters_frame ∷ []) number some_octets [])
+fits_one : FitsOne (tree big_table parameters)
+    (leaf_of big_table (parameters_frame ∷ []) number some_octets [])
 unfolding FitsOne
 fits_one =
-    let leaf = leaf_of bigs (parameters_frame ∷ []) number some_octets [] in
-    one_part 23 (tree bigs parameters) leaf has_one number_fits number_begun
+    let leaf = leaf_of big_table (parameters_frame ∷ []) number some_octets [] in
+    one_part 23 (tree big_table parameters) leaf has_one number_fits number_begun
 
-known : parameters < length (bigs.types)
+known : parameters < length (big_table.types)
 unfolding told_with kept_messages
-known = ltb-true parameters (length (bigs.types)) refl
+known = ltb-true parameters (length (big_table.types)) refl
 
-is_number : 8 ≡ part_number_in bigs 23 parameters 0
+is_number : 8 ≡ part_number_in big_table 23 parameters 0
 unfolding told_with kept_messages
 is_number = refl
 
-below_all : 8 < length (bigs.types)
+below_all : 8 < length (big_table.types)
 unfolding told_with kept_messages
-below_all = ltb-true 8 (length (bigs.types)) refl
+below_all = ltb-true 8 (length (big_table.types)) refl
 
-first_fits : decoder.Fits bigs in_body
-unfolding FitsOne in_body parameters_frame number some_octets bigs table_of
+first_fits : decoder.Fits big_table in_body
+unfolding FitsOne in_body parameters_frame number some_octets big_table table_of
 first_fits = record {
   leaf = number;
   goes_on = refl;
-  narrow = refl;
+  forbids_wide = refl;
   root = parameters;
   known_root = known;
   link = (refl, is_number);
@@ -401,7 +407,7 @@ first_fits = record {
   known_outer = (
     record {
       known = known;
-      within = λ room. within_in_room bigs 24 room parameters None 0 1 fits_one.2;
+      within = λ room. within_in_room big_table 24 room parameters None 0 1 fits_one.2;
     },
     tt,
   );
@@ -425,7 +431,7 @@ its_parts : ℕ
 unfolding first_front some_octets second_octets
 its_parts = 0
 
-pub two_open : BetweenMessages
+pub two_open : CheckpointBetweenMessages
 unfolding one_message a_stream told_with a_checkpoint kept_messages its_parts
 two_open = record {
   layout = Third;

@@ -2,28 +2,28 @@
 use Rattle.std.proofs.Common.{ℕ, List, [], ◌∷◌, None, Some, arith, refl, lit≤, lit<}
 use Rattle.std.specs.Prelude.{Option, option_map, codes}
 use Rattle.giop_cdr.specs.declared.prim.Primitive.TheVariants as prims
-use Rattle.giop_tokens.specs.Tokens.{gap, is_number, first, next}
+use Rattle.giop_tokens.specs.Tokens.{after_gap, is_number, first, next}
 use Rattle.giop_tokens.specs.Names.{is_reserved}
 use Rattle.giop_tokens.specs.Marks.{mark_of}
 use Rattle.giop_sig.specs.CallReading.{direction_of}
 use Rattle.giop_sig.specs.Trees.{tree_at, depth_at, depth_of}
-use Rattle.giop_sig.specs.AnyTypes.{any_types, third_types}
+use Rattle.giop_sig.specs.AnyTypes.{any_types, version_3_types}
 use Rattle.giop_sig.specs.Builtin.{builtin_types}
 use Rattle.giop_sig.specs.Grammar.{TypeExpr, Base, Item, Param, Declaration, DeclaredException, Call, SignatureFile, spell_file}
 use Rattle.giop_sig.specs.Scopes.{add_type, add_items, add_params, declare}
-use Rattle.giop_sig.specs.Validity.{OfType, OfItems, OfDeclaration, Each}
+use Rattle.giop_sig.specs.Validity.{OfType, OfItems, OfDeclaration, EachInItsScope}
 use Rattle.giop_stream_worked.proofs.TokensRead.{tokens_in, are_tokens}
-use Rattle.giop_stream_worked.specs.Worked.{IsTableOf, IsTableUpTo, called, table_of, builtin, puts, bigs, tris, late, asks, put_text, bigs_text, tris_text, asks_text}
+use Rattle.giop_stream_worked.specs.Worked.{IsTableOf, IsTableUpTo, operation_of_structs, table_of, builtin, put_table, big_table, tri_table, late_exception, ask_table, put_file_text, big_file_text, tri_file_text, ask_file_text}
 
-abbrev item : TypeExpr → List ℕ → Item
+abbrev item : (type : TypeExpr) (name : List ℕ) → Item
 item type name = record { type = type; name = name; lengths = [] }
 
-abbrev onto : Option Param → List Param → List Param
+abbrev onto : (p : Option Param) (ps : List Param) → List Param
 onto None ps = ps
 onto (Some p) ps = p ∷ ps
 
 -- a parameter before others; its direction is given by a word
-abbrev param : List ℕ → TypeExpr → List ℕ → List Param → List Param
+abbrev param : (direction : List ℕ) (type : TypeExpr) (name : List ℕ) (ps : List Param) → List Param
 param direction type name ps =
     onto (option_map (λ d. record { direction = d; item = item type name })
     (direction_of direction)) ps
@@ -32,7 +32,7 @@ param direction type name ps =
 abbrev nop : Declaration
 nop = Call None (codes "nop") [] []
 
-abbrev file_of : List Declaration → SignatureFile
+abbrev file_of : (declarations : List Declaration) → SignatureFile
 file_of declarations = record { version = 1; declarations = declarations }
 
 abbrev put_file : SignatureFile
@@ -44,10 +44,11 @@ put_file = file_of (Call None (codes "put") (param (codes "in") (Base prims.Doub
 -- a name for the list of the definitions that are unfolded to read a text, and to declare what it
 -- says
 unfoldable told_with : ℕ
-unfolding tokens_in gap is_number first next is_reserved mark_of depth_at tree_at depth_of
-    builtin_types any_types third_types add_type add_items add_params declare OfType OfItems
-    OfDeclaration Each called table_of builtin puts bigs tris late asks put_text bigs_text tris_text
-    asks_text
+unfolding tokens_in after_gap is_number first next is_reserved mark_of depth_at tree_at depth_of
+    builtin_types any_types version_3_types add_type add_items add_params declare OfType OfItems
+    OfDeclaration EachInItsScope operation_of_structs table_of builtin put_table big_table tri_table
+    late_exception ask_table put_file_text big_file_text tri_file_text
+    ask_file_text
 told_with = 0
 
 pub none_declared : IsTableOf (codes "signatures 1;") builtin
@@ -73,13 +74,13 @@ none_declared = record {
   table = refl;
 }
 
-pub put_declared : IsTableOf put_text puts
+pub put_declared : IsTableOf put_file_text put_table
 unfolding told_with
 put_declared = record {
   file = put_file;
   spells = record {
     short = omega arith;
-    tokens = are_tokens 40 put_text (spell_file put_file) refl;
+    tokens = are_tokens 40 put_file_text (spell_file put_file) refl;
     version = refl;
     words = ((tt, tt, ((tt, refl, tt), tt), tt), tt);
   };
@@ -99,13 +100,13 @@ abbrev bigs_file : SignatureFile
 bigs_file = file_of (Call None (codes "big")
     (param (codes "in") (Base prims.ULongLong) (codes "n") []) [] ∷ nop ∷ [])
 
-pub bigs_declared : IsTableOf bigs_text bigs
+pub bigs_declared : IsTableOf big_file_text big_table
 unfolding told_with
 bigs_declared = record {
   file = bigs_file;
   spells = record {
     short = omega arith;
-    tokens = are_tokens 40 bigs_text (spell_file bigs_file) refl;
+    tokens = are_tokens 40 big_file_text (spell_file bigs_file) refl;
     version = refl;
     words = ((tt, tt, ((tt, refl, tt), tt), tt), ((tt, tt, tt, tt), tt));
   };
@@ -132,13 +133,13 @@ tris_file = record {
       (param (codes "in") (Base prims.ULongLong) (codes "n") [])) [] ∷ [];
 }
 
-pub tris_declared : IsTableUpTo 3 tris_text tris
+pub tris_declared : IsTableUpTo 3 tri_file_text tri_table
 unfolding told_with
 tris_declared = record {
   file = tris_file;
   spells = record {
     short = omega arith;
-    tokens = are_tokens 40 tris_text (spell_file tris_file) refl;
+    tokens = are_tokens 40 tri_file_text (spell_file tris_file) refl;
     version = refl;
     words = ((tt, tt, ((tt, refl, tt), ((tt, refl, tt), tt)), tt), tt);
   };
@@ -170,13 +171,13 @@ asks_file = file_of (DeclaredException (codes "Late") (codes "IDL:Late:1.0")
     (param (codes "out") (Base prims.Octet) (codes "b") [])) []
     ∷ nop ∷ [])
 
-pub asks_declared : IsTableOf asks_text asks
+pub asks_declared : IsTableOf ask_file_text ask_table
 unfolding told_with
 asks_declared = record {
   file = asks_file;
   spells = record {
     short = omega arith;
-    tokens = are_tokens 40 asks_text (spell_file asks_file) refl;
+    tokens = are_tokens 40 ask_file_text (spell_file asks_file) refl;
     version = refl;
     words = (
       (refl, tt, ((tt, refl, tt), tt)),

@@ -3,31 +3,31 @@ use Rattle.std.proofs.Common.{◌≡◌, ℕ, zero, suc, List, [], ◌∷◌, Op
 use Rattle.giop_tokens.specs.declared.fault.TokenError.{TokenError}
 use Rattle.giop_tokens.specs.Tokens.{Token, next, AreTokens}
 
-abbrev with_token : Token → Option (List Token) → Option (List Token)
+abbrev with_token : (t : Token) (ts : Option (List Token)) → Option (List Token)
 with_token t None = None
 with_token t (Some ts) = Some (t ∷ ts)
 
-abbrev then : (List ℕ → Option (List Token)) → Result (Option Token × List ℕ) TokenError →
+abbrev then : (read : List ℕ → Option (List Token)) → Result (Option Token × List ℕ) TokenError →
     Option (List Token)
 then read (Err why) = None
 then read (Ok (None, [])) = Some []
 then read (Ok (None, x ∷ xs)) = None
 then read (Ok (Some t, rest)) = with_token t (read rest)
 
-unfoldable pub tokens_in : ℕ → List ℕ → Option (List Token)
+unfoldable pub tokens_in : (n : ℕ) (text : List ℕ) → Option (List Token)
 tokens_in zero text = None
 tokens_in (suc n) text = then (tokens_in n) (next text)
 
-abbrev AreRead : (List ℕ → Option (List Token)) → Type 0
+abbrev AreRead : (read : List ℕ → Option (List Token)) → Type 0
 AreRead read = (text : List ℕ) (ts : List Token) → read text ≡ Some ts → AreTokens text ts
 
-behind : (read : List ℕ → Option (List Token)) → AreRead read →
+token_first : (read : List ℕ → Option (List Token)) → AreRead read →
     (text rest : List ℕ) (t : Token) (ts : List Token)
     → next text ≡ Ok (Some t, rest) → (o : Option (List Token)) → read rest ≡ o →
     with_token t o ≡ Some ts
     → AreTokens text ts
-behind read are text rest t ts e None o h = absurd cc
-behind read are text rest t ts e (Some us) o h =
+token_first read are text rest t ts e None o h = absurd cc
+token_first read are text rest t ts e (Some us) o h =
     let same : t ∷ us ≡ ts = cc in
     subst (AreTokens text) same (rest, e, are rest us o)
 
@@ -40,7 +40,7 @@ one_more read are text ts (Ok (None, [])) e h =
     subst (AreTokens text) none e
 one_more read are text ts (Ok (None, x ∷ xs)) e h = absurd cc
 one_more read are text ts (Ok (Some t, rest)) e h =
-    behind read are text rest t ts e (read rest) refl h
+    token_first read are text rest t ts e (read rest) refl h
 
 pub are_tokens : (n : ℕ) → AreRead (tokens_in n)
 unfolding tokens_in

@@ -1,12 +1,12 @@
 -- Worked streams, message by message, with their lines (meaning).
 use Rattle.std.specs.Prelude.{[], ◌∷◌, codes}
 use Rattle.giop_stream.specs.Rules.{rules}
-use Rattle.giop_stream_worked.specs.Worked.{stream, Row, read_by, builtin, puts, bigs, tris, asks, kept}
+use Rattle.giop_stream_worked.specs.Worked.{hex_stream, Row, read_by, builtin, put_table, big_table, tri_table, ask_table, ask_requests}
 
 -- a CloseConnection of GIOP 1.0
 abbrev pub CloseConnection : Type 0
 CloseConnection = Row (read_by builtin [])
-    (stream (codes "47494f50 0100 00 05 00000000" ∷ []))
+    (hex_stream (codes "47494f50 0100 00 05 00000000" ∷ []))
     (codes "m1 start 1.0 big CloseConnection size 0"
     ∷ codes "m1 end"
     ∷ [])
@@ -14,8 +14,8 @@ CloseConnection = Row (read_by builtin [])
 
 -- a little-endian 1.2 Request with a double
 abbrev pub LittleRequest : Type 0
-LittleRequest = Row (read_by puts [])
-    (stream (codes "47494f50 0102 01 00 2c000000"
+LittleRequest = Row (read_by put_table [])
+    (hex_stream (codes "47494f50 0102 01 00 2c000000"
     ∷ codes "01000000 03 000000 0000 0000 01000000 41 000000 04000000 70757400 00000000"
     ∷ codes "00000000 000000000000f83f"
     ∷ []))
@@ -37,8 +37,8 @@ LittleRequest = Row (read_by puts [])
 
 -- Two Requests whose fragments are interleaved. The number of the first is cut into three parts.
 abbrev pub Interleaved : Type 0
-Interleaved = Row (read_by bigs [])
-    (stream (codes "47494f50 0102 02 00 00000028"
+Interleaved = Row (read_by big_table [])
+    (hex_stream (codes "47494f50 0102 02 00 00000028"
     ∷ codes "00000005 03 000000 0000 0000 00000001 41 000000 00000004 626967 00 00000000"
     ∷ codes "00000000 01020304"
     ∷ codes "47494f50 0102 02 00 00000024"
@@ -87,9 +87,9 @@ Interleaved = Row (read_by bigs [])
 
 -- A 1.1 Request whose body goes on in a Fragment. The padding before its second number is counted
 -- from the header of the Fragment.
-abbrev pub Joined : Type 0
-Joined = Row (read_by tris [])
-    (stream (codes "47494f50 0101 02 00 00000024"
+abbrev pub JoinedFragment : Type 0
+JoinedFragment = Row (read_by tri_table [])
+    (hex_stream (codes "47494f50 0101 02 00 00000024"
     ∷ codes "00000000 00000005 01 000000 00000001 41 000000 00000004 747269 00 00000000"
     ∷ codes "00000007"
     ∷ codes "47494f50 0101 00 07 0000000c ffffffff 0102030405060708"
@@ -114,9 +114,9 @@ Joined = Row (read_by tris [])
     (codes "total messages 2 faults 0 octets 72" ∷ [])
 
 -- two messages with the same request id; the second is faulted
-abbrev pub OpenTwice : Type 0
-OpenTwice = Row (read_by builtin [])
-    (stream (codes "47494f50 0102 02 00 00000004 00000001"
+abbrev pub SameIdTwice : Type 0
+SameIdTwice = Row (read_by builtin [])
+    (hex_stream (codes "47494f50 0102 02 00 00000004 00000001"
     ∷ codes "47494f50 0102 02 00 00000004 00000001"
     ∷ []))
     (codes "m1 start 1.2 big Request size 4 more"
@@ -130,9 +130,9 @@ OpenTwice = Row (read_by builtin [])
     ∷ [])
 
 -- two messages, if one message may be open at once; the second is faulted
-abbrev pub OneOpen : Type 0
-OneOpen = Row (rules builtin [] 1)
-    (stream (codes "47494f50 0102 02 00 00000004 00000001"
+abbrev pub OneMayBeOpen : Type 0
+OneMayBeOpen = Row (rules builtin [] 1)
+    (hex_stream (codes "47494f50 0102 02 00 00000004 00000001"
     ∷ codes "47494f50 0102 02 00 00000004 00000002"
     ∷ []))
     (codes "m1 start 1.2 big Request size 4 more"
@@ -148,7 +148,7 @@ OneOpen = Row (rules builtin [] 1)
 -- a CancelRequest of an open message, and a Fragment after it
 abbrev pub Cancelled : Type 0
 Cancelled = Row (read_by builtin [])
-    (stream (codes "47494f50 0102 02 00 00000004 00000004"
+    (hex_stream (codes "47494f50 0102 02 00 00000004 00000004"
     ∷ codes "47494f50 0102 00 02 00000004 00000004"
     ∷ codes "47494f50 0102 00 07 00000004 00000004"
     ∷ []))
@@ -166,8 +166,8 @@ Cancelled = Row (read_by builtin [])
 
 -- a Reply to a request whose operation is known
 abbrev pub Replied : Type 0
-Replied = Row (read_by asks kept)
-    (stream (codes "47494f50 0100 00 01 00000011 00000000 00000001 00000000 0000002a 09" ∷ []))
+Replied = Row (read_by ask_table ask_requests)
+    (hex_stream (codes "47494f50 0100 00 01 00000011 00000000 00000001 00000000 0000002a 09" ∷ []))
     (codes "m1 start 1.0 big Reply size 17"
     ∷ codes "m1 header.service_contexts count 0"
     ∷ codes "m1 header.request_id ulong 1"
@@ -180,8 +180,8 @@ Replied = Row (read_by asks kept)
 
 -- a Reply with a known exception
 abbrev pub Raised : Type 0
-Raised = Row (read_by asks kept)
-    (stream (codes "47494f50 0100 00 01 00000020"
+Raised = Row (read_by ask_table ask_requests)
+    (hex_stream (codes "47494f50 0100 00 01 00000020"
     ∷ codes "00000000 00000001 00000001 0000000d 49444c3a4c6174653a312e30 00 00 0003"
     ∷ []))
     (codes "m1 start 1.0 big Reply size 32"
@@ -200,7 +200,7 @@ Raised = Row (read_by asks kept)
 -- padding after its byte order.
 abbrev pub CodeSets : Type 0
 CodeSets = Row (read_by builtin [])
-    (stream (codes "47494f50 0100 00 01 00000020"
+    (hex_stream (codes "47494f50 0100 00 01 00000020"
     ∷ codes "00000001 00000001 0000000c 00 000000 00010001 00010109 00000007 00000000"
     ∷ []))
     (codes "m1 start 1.0 big Reply size 32"
@@ -220,7 +220,7 @@ CodeSets = Row (read_by builtin [])
 -- numbers.
 abbrev pub CodeSetsCutShort : Type 0
 CodeSetsCutShort = Row (read_by builtin [])
-    (stream (codes "47494f50 0100 00 01 0000001c"
+    (hex_stream (codes "47494f50 0100 00 01 0000001c"
     ∷ codes "00000001 00000001 00000008 00 000000 00010001 00000007 00000000"
     ∷ []))
     (codes "m1 start 1.0 big Reply size 28"
@@ -237,7 +237,7 @@ CodeSetsCutShort = Row (read_by builtin [])
 -- its members.
 abbrev pub Profile : Type 0
 Profile = Row (read_by builtin [])
-    (stream (codes "47494f50 0102 00 03 00000028"
+    (hex_stream (codes "47494f50 0102 00 03 00000028"
     ∷ codes "00000001 0001 0000 00000000 00000018"
     ∷ codes "00 01 02 00 00000002 6800 0007 00000001 41 000000 00000000"
     ∷ []))

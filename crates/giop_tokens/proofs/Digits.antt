@@ -11,7 +11,7 @@ use Rattle.std.proofs.lemmas.Str.{digit_value_digit}
 use Rattle.std.proofs.lemmas.Int.Digits.{digits_value-lt}
 use Rattle.std.proofs.lemmas.List.{length-take}
 use Rattle.std.proofs.lemmas.Bool.{and_parts, leb-true, ltb-true, eqb-true, eqb-false, le-leb, lt-ltb}
-use Rattle.giop_tokens.specs.Tokens.{is_digit, is_word, is_number, number_of}
+use Rattle.giop_tokens.specs.Tokens.{is_digit, is_word_octet, is_number, number_of}
 
 pub digit_bounds : (b : ℕ) → is_digit b ≡ true → (48 ≤ b) × (b ≤ 57)
 digit_bounds b e = search (arith, and_parts, leb-true)
@@ -136,11 +136,11 @@ or_third false true c d e = refl
 or_third false false c d e = rw e refl
 
 -- a digit is a word octet
-pub digit_is_word : (b : ℕ) → is_digit b ≡ true → is_word b ≡ true
+pub digit_is_word : (b : ℕ) → is_digit b ≡ true → is_word_octet b ≡ true
 digit_is_word b e = search (arith, or_third)
 
 pub digits_are_word : (w : List ℕ) → list_all is_digit w ≡ true →
-    AllByRecursion (λ b. is_word b ≡ true) w
+    AllByRecursion (λ b. is_word_octet b ≡ true) w
 digits_are_word [] h = tt
 digits_are_word (b ∷ w) h = let k = and_parts (is_digit b) (list_all is_digit w) h in
     (digit_is_word b k.0, digits_are_word w k.1)

@@ -1,12 +1,13 @@
 -- White space and comments, octet by octet.
 use Rattle.std.proofs.Common.{◌≡◌, ℕ, zero, suc, ◌+◌, ◌-◌, ◌<◌, Bool, List, [], ◌∷◌, length, get_or, take, drop, refl, take_all, suc-add, arith}
 use Rattle.std.proofs.lemmas.List.{length-drop}
-use Rattle.giop_tokens.specs.Tokens.{gap, gap_step, or_stop}
+use Rattle.giop_tokens.specs.Tokens.{after_gap, gap_step, here_or_on}
 
 pub gap_at : (bs : List ℕ) (i : ℕ) (comment : Bool) → i < length bs
-    → gap comment (drop i bs) ≡ or_stop (gap_step comment (get_or bs i 0) (get_or bs (i + 1) 0))
-    (drop i bs) (λ more. gap more (drop (i + 1) bs))
-unfolding gap
+    → after_gap comment (drop i bs) ≡ here_or_on
+    (gap_step comment (get_or bs i 0) (get_or bs (i + 1) 0))
+    (drop i bs) (λ more. after_gap more (drop (i + 1) bs))
+unfolding after_gap
 gap_at [] i comment lt = absurd (omega arith)
 gap_at (b ∷ []) zero comment lt = refl
 gap_at (b ∷ d ∷ bs) zero comment lt = refl
@@ -15,6 +16,6 @@ gap_at (b ∷ bs) (suc i) comment lt = rw (suc-add i 1) (gap_at bs i comment (om
 pub to_end : (n : ℕ) (xs : List ℕ) → take (length xs - n) (drop n xs) ≡ drop n xs
 to_end n xs = search (arith, take_all, drop, length-drop)
 
-pub gap_none : (comment : Bool) → gap comment [] ≡ []
-unfolding gap
+pub gap_none : (comment : Bool) → after_gap comment [] ≡ []
+unfolding after_gap
 gap_none comment = refl

@@ -11,7 +11,7 @@ use Rattle.giop_tokens.specs.declared.marks.Mark.TheVariants as marks
 use Rattle.giop_tokens.specs.Marks.{octet_of, mark_of}
 use Rattle.giop_tokens.specs.Tokens.{Token, word, number, repository, mark, next, AreTokens}
 use Rattle.giop_tokens.specs.Reading.{◌>>=◌}
-use Rattle.giop_tokens.specs.Readers.{misplaced, as_word, as_number, as_repository, is_the_mark, is_the_word, wanted, passes, next_as, next_is, next_if, word_at, number_at, repository_at, mark_at, keyword_at, mark_if, keyword_if, end_at}
+use Rattle.giop_tokens.specs.Readers.{misplaced, as_word, as_number, as_repository, is_the_mark, is_the_word, found_or, token_passes, next_as, next_is, next_if, word_at, number_at, repository_at, mark_at, keyword_at, mark_if, keyword_if, end_at}
 use Rattle.giop_tokens.specs.Names.{is_reserved, too_long, identifier_at, operation_name_at}
 use Rattle.giop_tokens.proofs.WrittenLaws.{next_first}
 
@@ -22,7 +22,7 @@ pub bind_ok : {A B : Type 0} (r : Result A TokenError) (f : A → Result B Token
 bind_ok (Ok x) f y e = (x, refl, e)
 bind_ok (Err d) f y e = absurd cc
 
-abbrev done : {A : Type 0} → A → Result A TokenError
+abbrev done : {A : Type 0} (x : A) → Result A TokenError
 done x = Ok x
 
 pub ok_is : {A : Type 0} (x y : A) → done x ≡ done y → x ≡ y
@@ -156,23 +156,23 @@ operation_name_long text w ts h long = let k : ltb 128 (length w) ≡ true =
 -- ---- What a reader took is the text's first token.
 
 -- the text is this token, and then the tokens of the rest
-abbrev pub Takes : List ℕ → Token → List ℕ → Type 0
-Takes text t rest = (ts : List Token) → AreTokens rest ts → AreTokens text (t ∷ ts)
+abbrev pub TakesToken : (text : List ℕ) (token : Token) (rest : List ℕ) → Type 0
+TakesToken text t rest = (ts : List Token) → AreTokens rest ts → AreTokens text (t ∷ ts)
 
 next_takes : (text : List ℕ) (t : Token) (rest : List ℕ) → next text ≡ Ok (Some t, rest) →
-    Takes text t rest
+    TakesToken text t rest
 next_takes text t rest e = λ ts h. (rest, e, h)
 
 told_by : {X : Type 0} (tells : Token → Option X) (text : List ℕ) (t : Token) (rest : List ℕ)
     (x : X × List ℕ) (o : Option X) → tells t ≡ o → next text ≡ Ok (Some t, rest) →
-    wanted (misplaced text) o rest ≡ Ok x → (s : Token) × (tells s ≡ Some x.0)
+    found_or (misplaced text) o rest ≡ Ok x → (s : Token) × (tells s ≡ Some x.0)
     × (next text ≡ Ok (Some s, x.1))
 told_by tells text t rest x None o n e = absurd cc
 told_by {X} tells text t rest x (Some y) o n e = search (arith, ok_is)
 
 wanted_by : {X : Type 0} (tells : Token → Option X) (text : List ℕ) (t : Option Token)
     (rest : List ℕ) (x : X × List ℕ) → next text ≡ Ok (t, rest) →
-    wanted (misplaced text) (option_and_then tells t) rest ≡ Ok x → (s : Token)
+    found_or (misplaced text) (option_and_then tells t) rest ≡ Ok x → (s : Token)
     × (tells s ≡ Some x.0) × (next text ≡ Ok (Some s, x.1))
 wanted_by tells text None rest x n e = absurd cc
 wanted_by tells text (Some t) rest x n e = search (arith, told_by)
@@ -184,7 +184,7 @@ unfolding next_as
 as_takes tells text x e = search (arith, bind_ok, wanted_by)
 
 passed_by : (is : Token → Bool) (text : List ℕ) (t : Option Token) (b : Bool)
-    (rest after : List ℕ) → passes is t ≡ b → next text ≡ Ok (t, rest) →
+    (rest after : List ℕ) → token_passes is t ≡ b → next text ≡ Ok (t, rest) →
     cond b (done rest) (Err (misplaced text)) ≡ Ok after → (s : Token) × (is s ≡ true)
     × (next text ≡ Ok (Some s, after))
 passed_by is text t false rest after p n e = absurd cc
@@ -197,7 +197,8 @@ unfolding next_is
 is_takes is text after e = search (arith, bind_ok, cond, passed_by)
 
 found_by : (is : Token → Bool) (text : List ℕ) (t : Option Token) (b : Bool) (rest after : List ℕ) →
-    passes is t ≡ b → next text ≡ Ok (t, rest) → done (cond b (Some rest) None) ≡ Ok (Some after) →
+    token_passes is t ≡ b → next text ≡ Ok (t, rest) → done (cond b (Some rest) None) ≡ Ok
+    (Some after) →
     (s : Token) × (is s ≡ true) × (next text ≡ Ok (Some s, after))
 found_by is text t false rest after p n e = absurd cc
 found_by is text None true rest after p n e = absurd cc
@@ -274,30 +275,31 @@ keyword_if_next w text rest e = search (arith, if_takes, first_is, keyword_told)
 
 -- the tokens of the text are the one that was read, and then those of the rest
 pub word_takes : (text : List ℕ) (x : List ℕ × List ℕ) → word_at text ≡ Ok x →
-    Takes text (word x.0) x.1
+    TakesToken text (word x.0) x.1
 word_takes text x e = search (arith, next_takes, word_next)
 
 pub number_takes : (text : List ℕ) (x : ℕ × List ℕ) → number_at text ≡ Ok x →
-    Takes text (number x.0) x.1
+    TakesToken text (number x.0) x.1
 number_takes text x e = search (arith, next_takes, number_next)
 
 pub repository_takes : (text : List ℕ) (x : List ℕ × List ℕ) → repository_at text ≡ Ok x →
-    Takes text (repository x.0) x.1
+    TakesToken text (repository x.0) x.1
 repository_takes text x e = search (arith, next_takes, repository_next)
 
 pub mark_takes : (m : Mark) (text rest : List ℕ) → mark_at m text ≡ Ok rest →
-    Takes text (mark m) rest
+    TakesToken text (mark m) rest
 mark_takes m text rest e = search (arith, next_takes, mark_next)
 
-pub keyword_takes : (w text rest : List ℕ) → keyword_at w text ≡ Ok rest → Takes text (word w) rest
+pub keyword_takes : (w text rest : List ℕ) → keyword_at w text ≡ Ok rest → TakesToken text
+    (word w) rest
 keyword_takes w text rest e = search (arith, next_takes, keyword_next)
 
 pub mark_if_takes : (m : Mark) (text rest : List ℕ) → mark_if m text ≡ Ok (Some rest) →
-    Takes text (mark m) rest
+    TakesToken text (mark m) rest
 mark_if_takes m text rest e = search (arith, next_takes, mark_if_next)
 
 pub keyword_if_takes : (w text rest : List ℕ) → keyword_if w text ≡ Ok (Some rest) →
-    Takes text (word w) rest
+    TakesToken text (word w) rest
 keyword_if_takes w text rest e = search (arith, next_takes, keyword_if_next)
 
 -- a repository id that was read isn't too long, because a longer one is no token

@@ -5,10 +5,10 @@ use Rattle.std.specs.Prelude.{option_map}
 use Rattle.giop_tokens.specs.declared.fault.TokenError.{TokenError}
 use Rattle.giop_tokens.specs.declared.fault.SigFaultKind.TheVariants as kinds
 use Rattle.giop_tokens.specs.Marks.{mark_of}
-use Rattle.giop_tokens.specs.Tokens.{Token, mark, is_word, is_id, run, past, number_of, word_token, below_zero, repository_token, as_token, first, next, AreTokens}
+use Rattle.giop_tokens.specs.Tokens.{Token, mark, is_word_octet, is_id_octet, front_run, after_run, number_of, word_token, negative_token, repository_token, token_or_refusal, first, next, AreTokens}
 use Rattle.giop_tokens.specs.Readers.{no_token}
 
-abbrev failed : {A : Type 0} → TokenError → Result A TokenError
+abbrev failed : {A : Type 0} (refusal : TokenError) → Result A TokenError
 failed e = Err e
 
 err_is : {A : Type 0} (d e : TokenError) → failed {A = A} d ≡ failed e → d ≡ e
@@ -19,16 +19,19 @@ not_both : {A : Type 0} (x : A) (e : TokenError) → Ok x ≡ failed e → ⊥
 not_both x e h = cc
 
 as_token_refused : (text rest : List ℕ) (o : Option Token) (r : TokenError) →
-    as_token text o rest ≡ Err r → r ≡ record { kind = kinds.Token; left = length text }
+    token_or_refusal text o rest ≡ Err r → r ≡ record { kind = kinds.Token; left = length text }
 as_token_refused text rest None r e = search (arith, err_is)
 as_token_refused text rest (Some t) r e = search (arith, not_both)
 
 first_refused_by : (b : ℕ) (bs : List ℕ) (r : TokenError) (u v w : Bool)
-    → cond u (as_token (b ∷ bs) (word_token (run is_word (b ∷ bs))) (past is_word (b ∷ bs)))
-    (cond v (as_token (b ∷ bs) (below_zero (number_of (run is_word bs))) (past is_word bs))
-    (cond w (as_token (b ∷ bs) (repository_token (run is_id bs) (past is_id bs))
-    (drop 1 (past is_id bs)))
-    (as_token (b ∷ bs) (option_map mark (mark_of b)) bs))) ≡ Err r →
+    → cond u (token_or_refusal (b ∷ bs) (word_token (front_run is_word_octet (b ∷ bs)))
+    (after_run is_word_octet (b ∷ bs)))
+    (cond v (token_or_refusal (b ∷ bs) (negative_token (number_of (front_run is_word_octet bs)))
+    (after_run is_word_octet bs))
+    (cond w (token_or_refusal (b ∷ bs) (repository_token (front_run is_id_octet bs)
+    (after_run is_id_octet bs))
+    (drop 1 (after_run is_id_octet bs)))
+    (token_or_refusal (b ∷ bs) (option_map mark (mark_of b)) bs))) ≡ Err r →
     r ≡ record { kind = kinds.Token; left = length (b ∷ bs) }
 first_refused_by b bs r true v w h = search (arith, as_token_refused)
 first_refused_by b bs r false true w h = search (arith, as_token_refused)

@@ -4,7 +4,7 @@ use Rattle.giop_tokens.specs.declared.marks.Mark.{Mark}
 use Rattle.giop_tokens.specs.declared.marks.Mark.TheVariants as marks
 
 -- the octet that a mark is written as
-abbrev pub octet_of : Mark → ℕ
+abbrev pub octet_of : (mark : Mark) → ℕ
 octet_of marks.OpenBrace = 123
 octet_of marks.CloseBrace = 125
 octet_of marks.OpenParenthesis = 40
@@ -18,16 +18,16 @@ octet_of marks.Semicolon = 59
 octet_of marks.Colon = 58
 
 -- the mark that is written as this octet, if there is one
-unfoldable pub mark_of : ℕ → Option Mark
-mark_of b =
-    if b == 123 then Some marks.OpenBrace else
-    (if b == 125 then Some marks.CloseBrace else
-    (if b == 40 then Some marks.OpenParenthesis else
-    (if b == 41 then Some marks.CloseParenthesis else
-    (if b == 60 then Some marks.OpenAngle else
-    (if b == 62 then Some marks.CloseAngle else
-    (if b == 91 then Some marks.OpenBracket else
-    (if b == 93 then Some marks.CloseBracket else
-    (if b == 44 then Some marks.Comma else
-    (if b == 59 then Some marks.Semicolon else
-    (if b == 58 then Some marks.Colon else None))))))))))
+unfoldable pub mark_of : (octet : ℕ) → Option Mark
+mark_of octet =
+    if octet == 123 then Some marks.OpenBrace else
+    (if octet == 125 then Some marks.CloseBrace else
+    (if octet == 40 then Some marks.OpenParenthesis else
+    (if octet == 41 then Some marks.CloseParenthesis else
+    (if octet == 60 then Some marks.OpenAngle else
+    (if octet == 62 then Some marks.CloseAngle else
+    (if octet == 91 then Some marks.OpenBracket else
+    (if octet == 93 then Some marks.CloseBracket else
+    (if octet == 44 then Some marks.Comma else
+    (if octet == 59 then Some marks.Semicolon else
+    (if octet == 58 then Some marks.Colon else None))))))))))

@@ -5,7 +5,7 @@ use Rattle.std.specs.List.{list_any}
 use Rattle.std.specs.Str.{bytes_eq}
 use Rattle.giop_tokens.specs.declared.fault.TokenError.{TokenError}
 use Rattle.giop_tokens.specs.declared.fault.SigFaultKind.TheVariants as kinds
-use Rattle.giop_tokens.specs.Tokens.{left_of}
+use Rattle.giop_tokens.specs.Tokens.{octets_left_at_token}
 use Rattle.giop_tokens.specs.Reading.{◌>>=◌}
 use Rattle.giop_tokens.specs.Readers.{misplaced, word_at}
 
@@ -29,24 +29,25 @@ later_reserved_words =
     ∷ codes "longdouble" ∷ []
 
 -- whether a word is reserved; the flag tells whether the file has version 3
-unfoldable pub is_reserved : Bool → List ℕ → Bool
-is_reserved third w =
-    list_any (bytes_eq w) reserved_words
-    || (third && list_any (bytes_eq w) later_reserved_words)
+unfoldable pub is_reserved : (version_3 : Bool) (word : List ℕ) → Bool
+is_reserved third word =
+    list_any (bytes_eq word) reserved_words
+    || (third && list_any (bytes_eq word) later_reserved_words)
 
 -- the refusal of the first token of a text, because it is too long
-abbrev pub too_long : List ℕ → TokenError
-too_long text = record { kind = kinds.Limit; left = left_of text }
+abbrev pub too_long : (text : List ℕ) → TokenError
+too_long text = record { kind = kinds.Limit; left = octets_left_at_token text }
 
 -- a name: a word that isn't reserved, of at most 64 octets
-unfoldable pub identifier_at : Bool → List ℕ → Result (List ℕ × List ℕ) TokenError
+unfoldable pub identifier_at : (version_3 : Bool) (text : List ℕ) → Result
+    (List ℕ × List ℕ) TokenError
 identifier_at third text = do
   w ← word_at text
   if is_reserved third w.0 then Err (misplaced text) else
       (if nat_lt 64 (length w.0) then Err (too_long text) else Ok (w.0, w.1))
 
 -- an operation's name: any word, of at most 128 octets
-unfoldable pub operation_name_at : List ℕ → Result (List ℕ × List ℕ) TokenError
+unfoldable pub operation_name_at : (text : List ℕ) → Result (List ℕ × List ℕ) TokenError
 operation_name_at text = do
   w ← word_at text
   if nat_lt 128 (length w.0) then Err (too_long text) else Ok (w.0, w.1)

@@ -7,113 +7,115 @@ use Rattle.giop_tokens.specs.declared.fault.TokenError.{TokenError}
 use Rattle.giop_tokens.specs.declared.fault.SigFaultKind.TheVariants as kinds
 use Rattle.giop_tokens.specs.declared.marks.Mark.{Mark}
 use Rattle.giop_tokens.specs.Marks.{octet_of}
-use Rattle.giop_tokens.specs.Tokens.{Token, word, number, negative, repository, mark, left_of, next}
+use Rattle.giop_tokens.specs.Tokens.{Token, word, number, negative, repository, mark, octets_left_at_token, next}
 use Rattle.giop_tokens.specs.Reading.{◌>>=◌}
 
 -- the refusal of the first token of a text that can't stand there, or of the end of the text
-abbrev pub misplaced : List ℕ → TokenError
-misplaced text = record { kind = kinds.Syntax; left = left_of text }
+abbrev pub misplaced : (text : List ℕ) → TokenError
+misplaced text = record { kind = kinds.Syntax; left = octets_left_at_token text }
 
 -- the refusal if a text goes on with something that is no token
-abbrev pub no_token : List ℕ → TokenError
-no_token text = record { kind = kinds.Token; left = left_of text }
+abbrev pub no_token : (text : List ℕ) → TokenError
+no_token text = record { kind = kinds.Token; left = octets_left_at_token text }
 
 -- ---- The value of a token.
 
-abbrev pub as_word : Token → Option (List ℕ)
+abbrev pub as_word : (token : Token) → Option (List ℕ)
 as_word (word w) = Some w
 as_word (number n) = None
 as_word (negative n) = None
 as_word (repository r) = None
 as_word (mark m) = None
 
-abbrev pub as_number : Token → Option ℕ
+abbrev pub as_number : (token : Token) → Option ℕ
 as_number (number n) = Some n
 as_number (word w) = None
 as_number (negative n) = None
 as_number (repository r) = None
 as_number (mark m) = None
 
-abbrev pub as_repository : Token → Option (List ℕ)
+abbrev pub as_repository : (token : Token) → Option (List ℕ)
 as_repository (repository r) = Some r
 as_repository (word w) = None
 as_repository (number n) = None
 as_repository (negative n) = None
 as_repository (mark m) = None
 
-abbrev pub is_the_mark : Mark → Token → Bool
+abbrev pub is_the_mark : (wanted : Mark) (token : Token) → Bool
 is_the_mark m (mark n) = octet_of n == octet_of m
 is_the_mark m (word w) = false
 is_the_mark m (number n) = false
 is_the_mark m (negative n) = false
 is_the_mark m (repository r) = false
 
-abbrev pub is_the_word : List ℕ → Token → Bool
-is_the_word w (word v) = bytes_eq v w
-is_the_word w (number n) = false
-is_the_word w (negative n) = false
-is_the_word w (repository r) = false
-is_the_word w (mark m) = false
+abbrev pub is_the_word : (name : List ℕ) (token : Token) → Bool
+is_the_word name (word v) = bytes_eq v name
+is_the_word name (number n) = false
+is_the_word name (negative n) = false
+is_the_word name (repository r) = false
+is_the_word name (mark m) = false
 
 -- ---- The next token.
 
-abbrev pub wanted : {X : Type 0} → TokenError → Option X → List ℕ → Result (X × List ℕ) TokenError
-wanted refusal None rest = Err refusal
-wanted refusal (Some x) rest = Ok (x, rest)
+abbrev pub found_or : {X : Type 0} (refusal : TokenError) (found : Option X) (rest : List ℕ) →
+    Result (X × List ℕ) TokenError
+found_or refusal None rest = Err refusal
+found_or refusal (Some x) rest = Ok (x, rest)
 
-abbrev pub passes : (Token → Bool) → Option Token → Bool
-passes is None = false
-passes is (Some t) = is t
+abbrev pub token_passes : (is : Token → Bool) (token : Option Token) → Bool
+token_passes is None = false
+token_passes is (Some t) = is t
 
 -- the value of the next token, and what follows it
-unfoldable pub next_as : {X : Type 0} → (Token → Option X) → List ℕ → Result (X × List ℕ) TokenError
+unfoldable pub next_as : {X : Type 0} (tells : Token → Option X) (text : List ℕ) →
+    Result (X × List ℕ) TokenError
 next_as tells text = do
   t ← next text
-  wanted (misplaced text) (option_and_then tells t.0) t.1
+  found_or (misplaced text) (option_and_then tells t.0) t.1
 
 -- what follows the next token, which must pass the test
-unfoldable pub next_is : (Token → Bool) → List ℕ → Result (List ℕ) TokenError
+unfoldable pub next_is : (is : Token → Bool) (text : List ℕ) → Result (List ℕ) TokenError
 next_is is text = do
   t ← next text
-  if passes is t.0 then Ok t.1 else Err (misplaced text)
+  if token_passes is t.0 then Ok t.1 else Err (misplaced text)
 
 -- what follows the next token, if that passes the test; nothing if it is another token, or the text
 -- ends
-unfoldable pub next_if : (Token → Bool) → List ℕ → Result (Option (List ℕ)) TokenError
+unfoldable pub next_if : (is : Token → Bool) (text : List ℕ) → Result (Option (List ℕ)) TokenError
 next_if is text = do
   t ← next text
-  Ok (if passes is t.0 then Some t.1 else None)
+  Ok (if token_passes is t.0 then Some t.1 else None)
 
 -- ---- The readers.
 
 -- any word that doesn't begin with a digit
-abbrev pub word_at : List ℕ → Result (List ℕ × List ℕ) TokenError
+abbrev pub word_at : (text : List ℕ) → Result (List ℕ × List ℕ) TokenError
 word_at text = next_as as_word text
 
-abbrev pub number_at : List ℕ → Result (ℕ × List ℕ) TokenError
+abbrev pub number_at : (text : List ℕ) → Result (ℕ × List ℕ) TokenError
 number_at text = next_as as_number text
 
-abbrev pub repository_at : List ℕ → Result (List ℕ × List ℕ) TokenError
+abbrev pub repository_at : (text : List ℕ) → Result (List ℕ × List ℕ) TokenError
 repository_at text = next_as as_repository text
 
-abbrev pub mark_at : Mark → List ℕ → Result (List ℕ) TokenError
+abbrev pub mark_at : (m : Mark) (text : List ℕ) → Result (List ℕ) TokenError
 mark_at m text = next_is (is_the_mark m) text
 
-abbrev pub keyword_at : List ℕ → List ℕ → Result (List ℕ) TokenError
-keyword_at w text = next_is (is_the_word w) text
+abbrev pub keyword_at : (name text : List ℕ) → Result (List ℕ) TokenError
+keyword_at name text = next_is (is_the_word name) text
 
-abbrev pub mark_if : Mark → List ℕ → Result (Option (List ℕ)) TokenError
+abbrev pub mark_if : (m : Mark) (text : List ℕ) → Result (Option (List ℕ)) TokenError
 mark_if m text = next_if (is_the_mark m) text
 
-abbrev pub keyword_if : List ℕ → List ℕ → Result (Option (List ℕ)) TokenError
-keyword_if w text = next_if (is_the_word w) text
+abbrev pub keyword_if : (name text : List ℕ) → Result (Option (List ℕ)) TokenError
+keyword_if name text = next_if (is_the_word name) text
 
-abbrev pub is_end : Option Token → Bool
+abbrev pub is_end : (token : Option Token) → Bool
 is_end None = true
 is_end (Some t) = false
 
 -- whether the text ends: only white space and comments are left
-unfoldable pub end_at : List ℕ → Result Bool TokenError
+unfoldable pub end_at : (text : List ℕ) → Result Bool TokenError
 end_at text = do
   t ← next text
   Ok (is_end t.0)

@@ -21,104 +21,113 @@ pub data Token : Type 0 where
 -- ---- Octets.
 
 -- space, tab, CR, LF
-abbrev pub is_white : ℕ → Bool
-is_white b = b == 32 || b == 9 || b == 13 || b == 10
+abbrev pub is_white_octet : (octet : ℕ) → Bool
+is_white_octet octet = octet == 32 || octet == 9 || octet == 13 || octet == 10
 
-abbrev pub is_digit : ℕ → Bool
-is_digit b = nat_le 48 b && nat_le b 57
+abbrev pub is_digit : (octet : ℕ) → Bool
+is_digit octet = nat_le 48 octet && nat_le octet 57
 
 -- a letter, a digit or _
-abbrev pub is_word : ℕ → Bool
-is_word b = (nat_le 97 b && nat_le b 122) || (nat_le 65 b && nat_le b 90) || is_digit b || b == 95
+abbrev pub is_word_octet : (octet : ℕ) → Bool
+is_word_octet octet =
+    (nat_le 97 octet && nat_le octet 122) || (nat_le 65 octet && nat_le octet 90) || is_digit octet
+    || octet == 95
 
 -- an octet that may stand in a repository id: 21 to 7e, but not "
-abbrev pub is_id : ℕ → Bool
-is_id b = nat_le 33 b && nat_le b 126 && not (b == 34)
+abbrev pub is_id_octet : (octet : ℕ) → Bool
+is_id_octet octet = nat_le 33 octet && nat_le octet 126 && not (octet == 34)
 
 -- ---- White space and comments.
 
 -- Whether a comment goes on after an octet, by the octet that follows it. There is no answer if a
 -- token begins at the octet. A comment goes on to the end of its line.
-abbrev pub gap_step : Bool → ℕ → ℕ → Option Bool
-gap_step true b after = Some (not (b == 10))
-gap_step false b after = if b == 47 && after == 47 then Some true else
-    (if is_white b then Some false else None)
+abbrev pub gap_step : (comment : Bool) (octet after : ℕ) → Option Bool
+gap_step true octet after = Some (not (octet == 10))
+gap_step false octet after = if octet == 47 && after == 47 then Some true else
+    (if is_white_octet octet then Some false else None)
 
-abbrev pub or_stop : Option Bool → List ℕ → (Bool → List ℕ) → List ℕ
-or_stop None here on = here
-or_stop (Some comment) here on = on comment
+abbrev pub here_or_on : (comment : Option Bool) (here : List ℕ) (going_on : Bool → List ℕ) →
+    List ℕ
+here_or_on None here going_on = here
+here_or_on (Some comment) here going_on = going_on comment
 
 -- what follows after white space and comments; the flag tells whether a comment has begun
-unfoldable pub gap : Bool → List ℕ → List ℕ
-gap comment [] = []
-gap comment (b ∷ bs) = or_stop (gap_step comment b (slice_index bs 0)) (b ∷ bs)
-    (λ more. gap more bs)
+unfoldable pub after_gap : (comment : Bool) (text : List ℕ) → List ℕ
+after_gap comment [] = []
+after_gap comment (b ∷ bs) = here_or_on (gap_step comment b (slice_index bs 0)) (b ∷ bs)
+    (λ more. after_gap more bs)
 
 -- the place of the first token; 0 at the end of the text
-abbrev pub left_of : List ℕ → ℕ
-left_of text = length (gap false text)
+abbrev pub octets_left_at_token : (text : List ℕ) → ℕ
+octets_left_at_token text = length (after_gap false text)
 
 -- ---- The first token.
 
 -- the longest run of octets of a kind at the front of a text, and what follows it
-abbrev pub run : (ℕ → Bool) → List ℕ → List ℕ
-run is text = take (prefix_len is text) text
+abbrev pub front_run : (is : ℕ → Bool) (text : List ℕ) → List ℕ
+front_run is text = take (prefix_len is text) text
 
-abbrev pub past : (ℕ → Bool) → List ℕ → List ℕ
-past is text = drop (prefix_len is text) text
+abbrev pub after_run : (is : ℕ → Bool) (text : List ℕ) → List ℕ
+after_run is text = drop (prefix_len is text) text
 
 -- one to 20 digits and nothing else, without a leading zero, of a number of at most 2^64 - 1
-unfoldable pub is_number : List ℕ → Bool
-is_number w = nat_le 1 (length w) && nat_le (length w) 20 && list_all is_digit w
-    && (length w == 1 || not (slice_index w 0 == 48)) && nat_lt (digits_value 10 w) (2 ^ 64)
+unfoldable pub is_number : (digits : List ℕ) → Bool
+is_number digits = nat_le 1 (length digits) && nat_le (length digits) 20
+    && list_all is_digit digits && (length digits == 1 || not (slice_index digits 0 == 48))
+    && nat_lt (digits_value 10 digits) (2 ^ 64)
 
-abbrev pub number_of : List ℕ → Option ℕ
-number_of w = if is_number w then Some (digits_value 10 w) else None
+abbrev pub number_of : (digits : List ℕ) → Option ℕ
+number_of digits = if is_number digits then Some (digits_value 10 digits) else None
 
 -- the token that a run of word octets is: a number if it begins with a digit, else a word
-abbrev pub word_token : List ℕ → Option Token
-word_token w = if is_digit (slice_index w 0) then option_map number (number_of w) else Some (word w)
+abbrev pub word_token : (name : List ℕ) → Option Token
+word_token name =
+    if is_digit (slice_index name 0) then option_map number (number_of name) else Some (word name)
 
-abbrev pub below_zero : Option ℕ → Option Token
-below_zero None = None
-below_zero (Some n) = if n == 0 then None else Some (negative n)
+abbrev pub negative_token : (size : Option ℕ) → Option Token
+negative_token None = None
+negative_token (Some size) = if size == 0 then None else Some (negative size)
 
 -- the repository id of these octets, 1 to 128 of them, if a quotation mark follows
-abbrev pub repository_token : List ℕ → List ℕ → Option Token
+abbrev pub repository_token : (id after : List ℕ) → Option Token
 repository_token id after = if nat_le 1 (length id) && nat_le (length id) 128
     && slice_index after 0 == 34 then Some (repository id) else None
 
 -- a token and what follows it, or the refusal at this place if there is no token
-abbrev pub as_token : List ℕ → Option Token → List ℕ → Result (Option Token × List ℕ) TokenError
-as_token text None rest = Err (record { kind = kinds.Token; left = length text })
-as_token text (Some t) rest = Ok (Some t, rest)
+abbrev pub token_or_refusal : (text : List ℕ) (token : Option Token) (rest : List ℕ) →
+    Result (Option Token × List ℕ) TokenError
+token_or_refusal text None rest = Err (record { kind = kinds.Token; left = length text })
+token_or_refusal text (Some t) rest = Ok (Some t, rest)
 
 -- the token that a text begins with, and what follows it; none if the text is empty
-unfoldable pub first : List ℕ → Result (Option Token × List ℕ) TokenError
+unfoldable pub first : (text : List ℕ) → Result (Option Token × List ℕ) TokenError
 first [] = Ok (None, [])
 first (b ∷ bs) =
-    if is_word b then as_token (b ∷ bs) (word_token (run is_word (b ∷ bs))) (past is_word (b ∷ bs))
+    if is_word_octet b then token_or_refusal (b ∷ bs)
+    (word_token (front_run is_word_octet (b ∷ bs))) (after_run is_word_octet (b ∷ bs))
     else
-    (if b == 45 then as_token (b ∷ bs) (below_zero (number_of (run is_word bs))) (past is_word bs)
+    (if b == 45 then token_or_refusal (b ∷ bs)
+    (negative_token (number_of (front_run is_word_octet bs))) (after_run is_word_octet bs)
     else
-    (if b == 34 then as_token (b ∷ bs) (repository_token (run is_id bs) (past is_id bs))
-    (drop 1 (past is_id bs)) else
-    as_token (b ∷ bs) (option_map mark (mark_of b)) bs))
+    (if b == 34 then token_or_refusal (b ∷ bs)
+    (repository_token (front_run is_id_octet bs) (after_run is_id_octet bs))
+    (drop 1 (after_run is_id_octet bs)) else
+    token_or_refusal (b ∷ bs) (option_map mark (mark_of b)) bs))
 
 -- The first token of a text, after white space and comments, and what follows it; none at the end
 -- of the text.
-unfoldable pub next : List ℕ → Result (Option Token × List ℕ) TokenError
-next text = first (gap false text)
+unfoldable pub next : (text : List ℕ) → Result (Option Token × List ℕ) TokenError
+next text = first (after_gap false text)
 
 -- ---- The text.
 
 -- the text is these tokens, with white space and comments before, between and after them
-abbrev pub AreTokens : List ℕ → List Token → Type 0
+abbrev pub AreTokens : (text : List ℕ) (tokens : List Token) → Type 0
 AreTokens text [] = next text ≡ Ok (None, [])
 AreTokens text (t ∷ ts) = (rest : List ℕ) × (next text ≡ Ok (Some t, rest)) × AreTokens rest ts
 
 -- a token of the code, as one of the definitions
-abbrev pub token_view : code.Token → Token
+abbrev pub token_view : (token : code.Token) → Token
 token_view (seen.Word w) = word w.now
 token_view (seen.Number n) = number n
 token_view (seen.Negative n) = negative n

@@ -3,12 +3,12 @@ ghost use Rattle.std.specs.Prelude.{◌≡◌, ℕ, ◌↔◌, List, Ok, Err, So
 ghost use Rattle.giop_tokens.specs.declared.fault.TokenError.{TokenError};
 ghost use Rattle.giop_tokens.specs.Tokens.{Token, next, AreTokens};
 ghost use Rattle.giop_tokens.specs.Readers.{no_token};
-ghost use Rattle.giop_tokens.specs.Layout.{IsFirst, IsLayout};
+ghost use Rattle.giop_tokens.specs.Layout.{IsFirstToken, IsLayout};
 
 /// The token that is read first is the token that is written first, after white space and comments.
 pub fn first_token()
     ensures { (text : List ℕ) (t : Token) (rest : List ℕ)
-        → (next text ≡ Ok (Some t, rest)) ↔ IsFirst text t rest }
+        → (next text ≡ Ok (Some t, rest)) ↔ IsFirstToken text t rest }
 {}
 
 /// A text is read as these tokens if and only if they are written in it, with white space and comments between them.

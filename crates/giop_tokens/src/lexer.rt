@@ -1,7 +1,7 @@
 //! The first token of a text.
 ghost use Rattle.std.specs.Prelude.{◌≡◌, ◌≤◌, false, length, drop, slice_index, option_map};
 ghost use Rattle.std.specs.List.{prefix_len};
-ghost use Rattle.giop_tokens.specs.Tokens.{gap, gap_step, first, is_white, is_word, is_id, next, left_of, token_view, word_token, below_zero, number_of, repository_token, as_token, mark};
+ghost use Rattle.giop_tokens.specs.Tokens.{after_gap, gap_step, first, is_white_octet, is_word_octet, is_id_octet, next, octets_left_at_token, token_view, word_token, negative_token, number_of, repository_token, token_or_refusal, mark};
 ghost use Rattle.giop_tokens.specs.Marks.{mark_of};
 ghost use Rattle.giop_tokens.specs.Reading.{Gives};
 
@@ -28,22 +28,22 @@ pub enum Token<'a> {
 }
 
 /// Whether an octet is white space: a space, a tab, CR or LF.
-fn is_white(b: u8) -> bool
-    ensures { result ≡ is_white b }
+fn is_white_octet(b: u8) -> bool
+    ensures { result ≡ is_white_octet b }
 {
     b == b' ' || b == b'\t' || b == b'\r' || b == b'\n'
 }
 
 /// Whether an octet may stand in a word: it is a letter, a digit or `_`.
-fn is_word(b: u8) -> bool
-    ensures { result ≡ is_word b }
+fn is_word_octet(b: u8) -> bool
+    ensures { result ≡ is_word_octet b }
 {
     b.is_ascii_lowercase() || b.is_ascii_uppercase() || is_digit(b) || b == b'_'
 }
 
 /// Whether an octet may stand in a repository id: printed ASCII, but neither a space nor a quotation mark.
-fn is_id(b: u8) -> bool
-    ensures { result ≡ is_id b }
+fn is_id_octet(b: u8) -> bool
+    ensures { result ≡ is_id_octet b }
 {
     b >= 0x21 && b <= 0x7e && b != b'"'
 }
@@ -65,12 +65,16 @@ fn gap_step(comment: bool, octet: u8, after: u8) -> Option<bool>
     if octet == b'/' && after == b'/' {
         return Some(true);
     }
-    if is_white(octet) { Some(false) } else { None }
+    if is_white_octet(octet) {
+        Some(false)
+    } else {
+        None
+    }
 }
 
 /// What follows after white space and comments.
 fn after_gap(text: &[u8]) -> &[u8]
-    ensures { result.now ≡ gap false text.now }
+    ensures { result.now ≡ after_gap false text.now }
 {
     let mut comment = false;
     for i in 0..text.len() {
@@ -84,11 +88,11 @@ fn after_gap(text: &[u8]) -> &[u8]
 
 /// How many octets at the front belong to a word.
 fn word_len(text: &[u8]) -> usize
-    ensures len { result ≡ prefix_len is_word text.now }
+    ensures len { result ≡ prefix_len is_word_octet text.now }
     ensures bound { result ≤ length text.now }
 {
     for (i, b) in text.iter().enumerate() {
-        if !is_word(*b) {
+        if !is_word_octet(*b) {
             return i;
         }
     }
@@ -97,11 +101,11 @@ fn word_len(text: &[u8]) -> usize
 
 /// How many octets at the front belong to a repository id.
 fn id_len(text: &[u8]) -> usize
-    ensures len { result ≡ prefix_len is_id text.now }
+    ensures len { result ≡ prefix_len is_id_octet text.now }
     ensures bound { result ≤ length text.now }
 {
     for (i, b) in text.iter().enumerate() {
-        if !is_id(*b) {
+        if !is_id_octet(*b) {
             return i;
         }
     }
@@ -120,7 +124,7 @@ fn word_token(word: &[u8]) -> Option<Token<'_>>
 
 /// The number below zero that the word octets after a `-` are.
 fn negative_token(word: &[u8]) -> Option<Token<'_>>
-    ensures { option_map token_view result ≡ below_zero (number_of word.now) }
+    ensures { option_map token_view result ≡ negative_token (number_of word.now) }
 {
     match number_of(word)? {
         0 => None,
@@ -140,7 +144,7 @@ fn repository_token<'a>(id: &'a [u8], after: &[u8]) -> Option<Token<'a>>
 }
 
 /// A token and what follows it, or the refusal at this place if there is no token.
-fn as_token<'a>(
+fn token_or_refusal<'a>(
     text: &[u8],
     token: Option<Token<'a>>,
     rest: &'a [u8],
@@ -148,7 +152,7 @@ fn as_token<'a>(
     ensures { Gives
         (λ x. (option_map token_view x.0, x.1.now))
         result
-        (as_token text.now (option_map token_view token.entry) rest.now) }
+        (token_or_refusal text.now (option_map token_view token.entry) rest.now) }
 {
     match token {
         None => Err(TokenError {
@@ -167,19 +171,19 @@ fn first(text: &[u8]) -> Result<(Option<Token<'_>>, &[u8]), TokenError>
     match text {
         [] => Ok((None, text)),
         [octet, after @ ..] => {
-            if is_word(*octet) {
+            if is_word_octet(*octet) {
                 let (word, rest) = text.split_at(word_len(text));
-                return as_token(text, word_token(word), rest);
+                return token_or_refusal(text, word_token(word), rest);
             }
             if *octet == b'-' {
                 let (word, rest) = after.split_at(word_len(after));
-                return as_token(text, negative_token(word), rest);
+                return token_or_refusal(text, negative_token(word), rest);
             }
             if *octet == b'"' {
                 let (id, rest) = after.split_at(id_len(after));
-                return as_token(text, repository_token(id, rest), past_mark(rest));
+                return token_or_refusal(text, repository_token(id, rest), after_first_octet(rest));
             }
-            as_token(text, mark_token(*octet), after)
+            token_or_refusal(text, mark_token(*octet), after)
         }
     }
 }
@@ -192,7 +196,7 @@ fn mark_token(octet: u8) -> Option<Token<'static>>
 }
 
 /// What follows after the first octet.
-fn past_mark(text: &[u8]) -> &[u8]
+fn after_first_octet(text: &[u8]) -> &[u8]
     ensures { result.now ≡ drop 1 text.now }
 {
     match text {
@@ -210,8 +214,8 @@ pub fn next(text: &[u8]) -> Result<(Option<Token<'_>>, &[u8]), TokenError>
 }
 
 /// The place of the first token of a text: how many octets are left from the token on. It is 0 at the end of the text.
-pub fn left_of(text: &[u8]) -> usize
-    ensures { result ≡ left_of text.now }
+pub fn octets_left_at_token(text: &[u8]) -> usize
+    ensures { result ≡ octets_left_at_token text.now }
 {
     after_gap(text).len()
 }

@@ -12,7 +12,7 @@ mod readers;
 
 pub use fault::{SigFault, SigFaultKind, TokenError};
 pub use laws::{first_token, laid_out, no_list, one_list};
-pub use lexer::{Token, left_of, next};
+pub use lexer::{Token, next, octets_left_at_token};
 pub use lines::{fault_in, line_of};
 pub use marks::Mark;
 pub use names::{identifier, is_reserved, operation_name};

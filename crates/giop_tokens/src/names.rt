@@ -5,7 +5,7 @@ ghost use Rattle.giop_tokens.specs.Reading.{Gives};
 ghost use Rattle.giop_tokens.specs.Names.{reserved_words, later_reserved_words, is_reserved, too_long, identifier_at, operation_name_at};
 
 use crate::fault::{SigFaultKind, TokenError};
-use crate::lexer::left_of;
+use crate::lexer::octets_left_at_token;
 use crate::readers::{misplaced, word};
 
 /// The greatest length of a name, in octets.
@@ -20,16 +20,16 @@ fn is_one_of(word: &[u8], others: &[&[u8]]) -> bool
     others.iter().any(|other| word == *other)
 }
 
-/// Whether a word is reserved, so that it can't be a name. `third` tells whether the file has version 3.
+/// Whether a word is reserved, so that it can't be a name. `version_3` tells whether the file has version 3.
 #[tactic(auto, unfolding(crate::specs::Names::is_reserved))]
-pub fn is_reserved(third: bool, word: &[u8]) -> bool
-    ensures { result ≡ is_reserved third word.now }
+pub fn is_reserved(version_3: bool, word: &[u8]) -> bool
+    ensures { result ≡ is_reserved version_3 word.now }
 {
-    is_old_word(word) || (third && is_later_word(word))
+    is_always_reserved(word) || (version_3 && is_reserved_in_version_3(word))
 }
 
 /// Whether a word is reserved in every file.
-fn is_old_word(word: &[u8]) -> bool
+fn is_always_reserved(word: &[u8]) -> bool
     ensures { result ≡ list_any (bytes_eq word.now) reserved_words }
 {
     is_one_of(
@@ -71,7 +71,7 @@ fn is_old_word(word: &[u8]) -> bool
 }
 
 /// Whether a word is reserved only in files of version 3.
-fn is_later_word(word: &[u8]) -> bool
+fn is_reserved_in_version_3(word: &[u8]) -> bool
     ensures { result ≡ list_any (bytes_eq word.now) later_reserved_words }
 {
     is_one_of(
@@ -93,17 +93,17 @@ fn too_long(text: &[u8]) -> TokenError
 {
     TokenError {
         kind: SigFaultKind::Limit,
-        left: left_of(text),
+        left: octets_left_at_token(text),
     }
 }
 
-/// Reads a name: a word that isn't reserved, of at most 64 octets. `third` tells whether the file has version 3.
+/// Reads a name: a word that isn't reserved, of at most 64 octets. `version_3` tells whether the file has version 3.
 #[tactic(auto, unfolding(crate::specs::Names::identifier_at))]
-pub fn identifier(third: bool, text: &[u8]) -> Result<(&[u8], &[u8]), TokenError>
-    ensures { Gives (λ x. (x.0.now, x.1.now)) result (identifier_at third text.now) }
+pub fn identifier(version_3: bool, text: &[u8]) -> Result<(&[u8], &[u8]), TokenError>
+    ensures { Gives (λ x. (x.0.now, x.1.now)) result (identifier_at version_3 text.now) }
 {
     let (name, rest) = word(text)?;
-    if is_reserved(third, name) {
+    if is_reserved(version_3, name) {
         return Err(misplaced(text));
     }
     if name.len() > NAME_MAX {

@@ -22,7 +22,7 @@ fn are_digits(word: &[u8]) -> bool
 }
 
 /// The number that at most 20 digits are.
-fn value_of(digits: &[u8]) -> u128
+fn decimal_value(digits: &[u8]) -> u128
     requires some { list_all is_digit digits.now ≡ true }
     requires few { length digits.now ≤ 20 }
     ensures { result ≡ digits_value 10 digits.now }
@@ -45,5 +45,5 @@ pub fn number_of(word: &[u8]) -> Option<u64>
     if word.len() != 1 && word[0] == b'0' {
         return None;
     }
-    u64::try_from(value_of(word)).ok()
+    u64::try_from(decimal_value(word)).ok()
 }

@@ -3,10 +3,10 @@
 ghost use Rattle.std.specs.Prelude.{◌≡◌, option_map};
 ghost use Rattle.giop_tokens.specs.Reading.{Gives};
 ghost use Rattle.giop_tokens.specs.Tokens.{token_view};
-ghost use Rattle.giop_tokens.specs.Readers.{misplaced, passes, is_the_mark, is_the_word, mark_at, keyword_at, word_at, number_at, repository_at, mark_if, keyword_if, end_at};
+ghost use Rattle.giop_tokens.specs.Readers.{misplaced, token_passes, is_the_mark, is_the_word, mark_at, keyword_at, word_at, number_at, repository_at, mark_if, keyword_if, end_at};
 
 use crate::fault::{SigFaultKind, TokenError};
-use crate::lexer::{Token, left_of, next};
+use crate::lexer::{Token, next, octets_left_at_token};
 use crate::marks::Mark;
 
 /// The refusal of the first token of a text that can't stand there, or of the end of the text.
@@ -15,13 +15,13 @@ pub fn misplaced(text: &[u8]) -> TokenError
 {
     TokenError {
         kind: SigFaultKind::Syntax,
-        left: left_of(text),
+        left: octets_left_at_token(text),
     }
 }
 
 /// Whether a token is this mark.
 fn is_the_mark(token: Option<Token<'_>>, wanted: Mark) -> bool
-    ensures { result ≡ passes (is_the_mark wanted) (option_map token_view token.entry) }
+    ensures { result ≡ token_passes (is_the_mark wanted) (option_map token_view token.entry) }
 {
     match token {
         Some(Token::Mark(found)) => found.octet() == wanted.octet(),
@@ -31,7 +31,7 @@ fn is_the_mark(token: Option<Token<'_>>, wanted: Mark) -> bool
 
 /// Whether a token is this word.
 fn is_the_word(token: Option<Token<'_>>, wanted: &[u8]) -> bool
-    ensures { result ≡ passes (is_the_word wanted.now) (option_map token_view token.entry) }
+    ensures { result ≡ token_passes (is_the_word wanted.now) (option_map token_view token.entry) }
 {
     match token {
         Some(Token::Word(found)) => found == wanted,

@@ -1,8 +1,8 @@
 //! What a capture tells about itself.
 
-use crate::facts::Faulted;
-use giop_json_values::Text;
-use giop_lines::{CaptureTotal, Said};
+use crate::facts::NotedFault;
+use giop_json_values::JsonText;
+use giop_lines::{CaptureTotal, Statement};
 use std::alloc::{AllocError, Global};
 
 /// The totals of a capture and its fault, if their lines came.
@@ -11,7 +11,7 @@ pub struct Capture {
     /// The totals, if their line came.
     pub total: Option<CaptureTotal>,
     /// The fault, if its line came.
-    pub fault: Faulted,
+    pub fault: NotedFault,
 }
 
 impl Capture {
@@ -19,18 +19,18 @@ impl Capture {
     pub fn new(alloc: Global) -> Capture {
         Capture {
             total: None,
-            fault: Faulted::new(alloc),
+            fault: NotedFault::new(alloc),
         }
     }
 
     /// Takes a line of a capture.
-    pub fn take(&mut self, said: Said<'_>) -> Result<(), AllocError> {
+    pub fn take_statement(&mut self, said: Statement<'_>) -> Result<(), AllocError> {
         match said {
-            Said::CaptureTotal(total) => {
+            Statement::CaptureTotal(total) => {
                 self.total = Some(total);
                 Ok(())
             }
-            Said::CaptureFault(fault) => self.fault.take(fault),
+            Statement::CaptureFault(fault) => self.fault.note_fault(fault),
             _ => Ok(()),
         }
     }
@@ -41,18 +41,18 @@ impl Capture {
     }
 
     /// Writes the capture's object. If `says_cut` is true, it says whether the totals are missing.
-    pub fn put(&self, text: &mut Text, says_cut: bool) -> Result<(), AllocError> {
+    pub fn put_object(&self, text: &mut JsonText, says_cut: bool) -> Result<(), AllocError> {
         text.open(false)?;
         if let Some(total) = self.total {
-            for (name, number) in numbers(total) {
-                text.total(name, number)?;
+            for (name, number) in named_totals(total) {
+                text.number_member(name, number)?;
             }
             if let Some(other) = total.other {
-                text.total("other", other)?;
+                text.number_member("other", other)?;
             }
         }
-        self.fault.put(text)?;
-        text.flag("cut", says_cut && self.total.is_none())?;
+        self.fault.put_member(text)?;
+        text.true_member_if("cut", says_cut && self.total.is_none())?;
         text.close(false)
     }
 
@@ -61,25 +61,25 @@ impl Capture {
         if !self.fault.is_none() {
             text.extend_from_slice(b"capture fault ")?;
             text.extend_from_slice(&self.fault.word)?;
-            put_named(text, "at", self.fault.place)?;
+            put_name_and_number(text, "at", self.fault.place)?;
             text.push(b'\n')?;
         }
         let Some(total) = self.total else {
             return Ok(());
         };
         text.extend_from_slice(b"total")?;
-        for (name, number) in numbers(total) {
-            put_named(text, name, number)?;
+        for (name, number) in named_totals(total) {
+            put_name_and_number(text, name, number)?;
         }
         if let Some(other) = total.other {
-            put_named(text, "other", other)?;
+            put_name_and_number(text, "other", other)?;
         }
         text.extend_from_slice(b"\n")
     }
 }
 
 /// The totals that every capture has, with their names.
-fn numbers(total: CaptureTotal) -> [(&'static str, u64); 5] {
+fn named_totals(total: CaptureTotal) -> [(&'static str, u64); 5] {
     [
         ("streams", total.streams),
         ("messages", total.messages),
@@ -89,7 +89,7 @@ fn numbers(total: CaptureTotal) -> [(&'static str, u64); 5] {
     ]
 }
 
-fn put_named(text: &mut Vec<u8>, name: &str, number: u64) -> Result<(), AllocError> {
+fn put_name_and_number(text: &mut Vec<u8>, name: &str, number: u64) -> Result<(), AllocError> {
     text.push(b' ')?;
     text.extend_from_slice(name.as_bytes())?;
     text.push(b' ')?;

@@ -32,7 +32,7 @@ struct Connection {
 
 /// The connection of a stream.
 #[derive(Clone, Copy, Debug, Drop, PartialEq, Eq)]
-pub struct Of {
+pub struct ConnectionId {
     /// The number of the connection among all connections.
     pub id: u64,
     /// The number of its first stream.
@@ -41,20 +41,20 @@ pub struct Of {
 
 /// How many streams of a connection live, and whether it is over.
 #[derive(Clone, Copy, Debug, Drop)]
-struct Life {
+struct ConnectionLife {
     streams: u64,
     is_over: bool,
 }
 
-impl Life {
+impl ConnectionLife {
     /// Counts a stream of the connection as over.
-    fn end(&mut self) -> Ending
+    fn end_stream(&mut self) -> ConnectionEnding
         ensures streams { self.new.streams ≡ self.old.streams - 1 }
         ensures over { result.is_over ≡ self.old.is_over }
         ensures last { IsTrue result.is_last ↔ (self.new.streams ≡ 0) }
     {
         self.streams = self.streams.saturating_sub(1);
-        Ending {
+        ConnectionEnding {
             is_over: self.is_over,
             is_last: self.streams == 0,
         }
@@ -63,16 +63,16 @@ impl Life {
 
 /// What is known about the connection of a stream, after the stream's end.
 #[derive(Clone, Copy, Debug, Drop, PartialEq, Eq)]
-pub struct Ending {
+pub struct ConnectionEnding {
     /// Whether the connection is over. If it is, the next stream between its endpoints is of another connection.
     pub is_over: bool,
     /// Whether none of its streams lives any more.
     pub is_last: bool,
 }
 
-impl Ending {
+impl ConnectionEnding {
     /// Whether no more lines about the connection come.
-    pub fn is_end(&self) -> bool
+    pub fn ends_connection(&self) -> bool
         ensures { result ≡ (self.now.is_over && self.now.is_last) }
     {
         self.is_over && self.is_last
@@ -85,7 +85,7 @@ pub(crate) struct Connections {
     // The connections by their two endpoints, the one between these that began last.
     known: LruCache<String, Connection>,
     // The connections with a stream that lives, by their numbers.
-    lives: HashMap<u64, Life>,
+    lives: HashMap<u64, ConnectionLife>,
     begun: u64,
 }
 
@@ -101,42 +101,42 @@ impl Connections {
 
     /// The connection of a stream that begins. It is the connection of the stream that lives with it; or else the last one
     /// of its endpoints, if that isn't over; or else a new one.
-    pub(crate) fn begin(
+    pub(crate) fn begin_stream(
         &mut self,
         alloc: Global,
         stream: u64,
-        ends: (&str, &str),
-        with: Option<Of>,
-    ) -> Result<Of, AllocError> {
-        let of = self.find(alloc, stream, ends, with)?;
-        let streams = match self.lives.get(&of.id) {
+        endpoints: (&str, &str),
+        opposite: Option<ConnectionId>,
+    ) -> Result<ConnectionId, AllocError> {
+        let connection = self.find_or_begin(alloc, stream, endpoints, opposite)?;
+        let streams = match self.lives.get(&connection.id) {
             None => 0,
             Some(life) => life.streams,
         };
-        let life = Life {
+        let life = ConnectionLife {
             streams: streams.saturating_add(1),
             is_over: false,
         };
-        self.lives.insert(of.id, life)?;
-        Ok(of)
+        self.lives.insert(connection.id, life)?;
+        Ok(connection)
     }
 
     /// Finds the connection of a stream that begins, or makes a new one.
-    fn find(
+    fn find_or_begin(
         &mut self,
         alloc: Global,
         stream: u64,
-        ends: (&str, &str),
-        with: Option<Of>,
-    ) -> Result<Of, AllocError> {
-        let key = key_of(alloc, ends)?;
-        let side = side_of(ends);
+        endpoints: (&str, &str),
+        opposite: Option<ConnectionId>,
+    ) -> Result<ConnectionId, AllocError> {
+        let key = key_of_endpoints(alloc, endpoints)?;
+        let side = flow_index(endpoints);
         if let Some(known) = self.known.peek_mut(&key)
             && !known.is_over
-            && with.is_none_or(|other| other.id == known.id)
+            && opposite.is_none_or(|other| other.id == known.id)
         {
             known.flows[side] = Flow::Live;
-            return Ok(Of {
+            return Ok(ConnectionId {
                 id: known.id,
                 number: known.number,
             });
@@ -154,27 +154,27 @@ impl Connections {
             let _ = self.known.pop_lru();
         }
         self.known.put(key, begun)?;
-        Ok(Of {
+        Ok(ConnectionId {
             id: begun.id,
             number: stream,
         })
     }
 
     /// Notes the word with which a stream of a connection closed.
-    pub(crate) fn close(
+    pub(crate) fn close_stream(
         &mut self,
         alloc: Global,
-        of: Of,
-        ends: (&str, &str),
+        connection: ConnectionId,
+        endpoints: (&str, &str),
         word: &[u8],
     ) -> Result<(), AllocError> {
-        let key = key_of(alloc, ends)?;
+        let key = key_of_endpoints(alloc, endpoints)?;
         let mut is_over = matches!(word, b"reset" | b"syn" | b"room");
         if let Some(known) = self.known.peek_mut(&key)
-            && known.id == of.id
+            && known.id == connection.id
         {
             let is_finished = word == b"fin".as_slice();
-            known.flows[side_of(ends)] = if is_finished {
+            known.flows[flow_index(endpoints)] = if is_finished {
                 Flow::Finished
             } else {
                 Flow::Closed
@@ -182,41 +182,41 @@ impl Connections {
             known.is_over |= is_over || known.flows == [Flow::Finished, Flow::Finished];
             is_over = known.is_over;
         }
-        if let Some(life) = self.lives.get_mut(&of.id) {
+        if let Some(life) = self.lives.get_mut(&connection.id) {
             life.is_over |= is_over;
         }
         Ok(())
     }
 
     /// Counts a stream of a connection as over.
-    pub(crate) fn end(&mut self, of: Of) -> Ending {
-        let Some(life) = self.lives.get_mut(&of.id) else {
-            return Ending {
+    pub(crate) fn end_stream(&mut self, connection: ConnectionId) -> ConnectionEnding {
+        let Some(life) = self.lives.get_mut(&connection.id) else {
+            return ConnectionEnding {
                 is_over: false,
                 is_last: true,
             };
         };
-        let ending = life.end();
+        let ending = life.end_stream();
         if ending.is_last {
-            let _ = self.lives.remove(&of.id);
+            let _ = self.lives.remove(&connection.id);
         }
         ending
     }
 }
 
 /// Which of the two flows goes from the first endpoint to the second: 0 or 1.
-fn side_of(ends: (&str, &str)) -> usize
+fn flow_index(endpoints: (&str, &str)) -> usize
     ensures { result < 2 }
 {
-    if ends.0 <= ends.1 { 0 } else { 1 }
+    if endpoints.0 <= endpoints.1 { 0 } else { 1 }
 }
 
 /// Both endpoints, with a space between them. The one whose text comes first stands first.
-fn key_of(alloc: Global, ends: (&str, &str)) -> Result<String, AllocError> {
-    let (first, second) = if side_of(ends) == 0 {
-        ends
+fn key_of_endpoints(alloc: Global, endpoints: (&str, &str)) -> Result<String, AllocError> {
+    let (first, second) = if flow_index(endpoints) == 0 {
+        endpoints
     } else {
-        (ends.1, ends.0)
+        (endpoints.1, endpoints.0)
     };
     let mut key = String::from_str(alloc, first)?;
     key.push(' ')?;

@@ -1,33 +1,33 @@
 //! A dump: its lines by stream and message, and when a stream or message is over.
 
-use crate::connections::Ending;
+use crate::connections::ConnectionEnding;
 use crate::fault::ViewError;
-use crate::message::{Key, Message, Own};
+use crate::message::{Key, Message, ViewData};
 use crate::open::Open;
 use crate::streams::{Stream, Streams};
-use crate::view::{Notice, View, is_after_end, is_last};
-use giop_lines::{DumpLine, Said, Start, Value};
+use crate::view::{Notice, View, ends_message, may_follow_end};
+use giop_lines::{DumpLine, Start, Statement, Value};
 use giop_print::Out;
 use std::alloc::{AllocError, Global};
 
 /// Something that makes an output of messages and streams.
 pub trait Maker {
     /// What is kept of a message in addition to its facts.
-    type Own: Own;
+    type ViewData: ViewData;
 
     /// Takes a value of a message.
     fn take_value(
         &mut self,
-        message: &mut Message<Self::Own>,
+        message: &mut Message<Self::ViewData>,
         path: &[u8],
         value: Value<'_>,
     ) -> Result<(), AllocError>;
 
     /// Takes a line of a message that is neither a value nor a fact.
-    fn take_more(
+    fn take_rest_or_later(
         &mut self,
-        _message: &mut Message<Self::Own>,
-        _said: Said<'_>,
+        _message: &mut Message<Self::ViewData>,
+        _said: Statement<'_>,
     ) -> Result<(), AllocError> {
         Ok(())
     }
@@ -37,16 +37,16 @@ pub trait Maker {
         &mut self,
         out: &mut O,
         streams: &Streams,
-        open: &mut Open<Self::Own>,
-        message: Box<Message<Self::Own>>,
+        open: &mut Open<Self::ViewData>,
+        message: Box<Message<Self::ViewData>>,
     ) -> Result<(), ViewError>;
 
     /// Takes a line of a stream or of a capture. The stream has noted it already.
-    fn take_of_stream<O: Out>(
+    fn take_stream_line<O: Out>(
         &mut self,
         out: &mut O,
         stream: &Stream,
-        said: Said<'_>,
+        said: Statement<'_>,
     ) -> Result<(), ViewError>;
 
     /// Takes a stream that is over, after its messages, and what is then known about its connection.
@@ -54,25 +54,29 @@ pub trait Maker {
         &mut self,
         out: &mut O,
         stream: &Stream,
-        ending: Ending,
-        open: &mut Open<Self::Own>,
+        ending: ConnectionEnding,
+        open: &mut Open<Self::ViewData>,
     ) -> Result<(), ViewError>;
 
     /// Writes all that is left, after the last stream.
-    fn finish<O: Out>(&mut self, out: &mut O, open: &mut Open<Self::Own>) -> Result<(), ViewError>;
+    fn finish<O: Out>(
+        &mut self,
+        out: &mut O,
+        open: &mut Open<Self::ViewData>,
+    ) -> Result<(), ViewError>;
 
     /// Whether more is held than may be, together with what the open messages hold.
     #[inline]
-    fn is_full(&self, _open: u64) -> bool {
+    fn holds_too_much(&self, _open_octets: u64) -> bool {
         false
     }
 
     /// Makes room.
-    fn make_room<O: Out>(
+    fn reduce_held_text<O: Out>(
         &mut self,
         out: &mut O,
         streams: &Streams,
-        open: &mut Open<Self::Own>,
+        open: &mut Open<Self::ViewData>,
     ) -> Result<(), ViewError>;
 
     /// What there was no room for, if there was anything.
@@ -86,7 +90,7 @@ pub trait Maker {
 pub struct Dump<V: Maker + Drop> {
     alloc: Global,
     streams: Streams,
-    open: Open<V::Own>,
+    open: Open<V::ViewData>,
     maker: V,
 }
 
@@ -102,17 +106,17 @@ impl<V: Maker + Drop> Dump<V> {
     }
 
     /// Takes a line that isn't a value of the same message as the line before.
-    fn take_other<O: Out>(
+    fn take_other_line<O: Out>(
         &mut self,
         out: &mut O,
         key: Key,
-        said: Said<'_>,
+        said: Statement<'_>,
     ) -> Result<(), ViewError> {
         if self.open.is_waiting() {
-            if self.open.current_key() == Some(key) && is_after_end(said) {
-                return self.take_after_end(out, key, said);
+            if self.open.current_key() == Some(key) && may_follow_end(said) {
+                return self.take_line_after_end(out, key, said);
             }
-            self.end_current(out)?;
+            self.end_current_message(out)?;
         }
         match self.open.current_key() {
             // The stream is known already.
@@ -120,40 +124,40 @@ impl<V: Maker + Drop> Dump<V> {
             _ => self.enter_stream(out, key.stream)?,
         }
         if key.number == 0 {
-            return self.take_of_stream(out, key.stream, said);
+            return self.take_stream_line(out, key.stream, said);
         }
-        self.take_of_message(out, key, said)?;
-        self.make_room(out)
+        self.take_message_line(out, key, said)?;
+        self.reduce_held_text(out)
     }
 
     /// Notes a stream. If there is no room for one more, the one that began first ends.
     fn enter_stream<O: Out>(&mut self, out: &mut O, stream: u64) -> Result<(), ViewError> {
-        if let Some(first) = self.streams.first_without_room(stream) {
+        if let Some(first) = self.streams.first_if_full(stream) {
             self.end_stream(out, first)?;
         }
-        self.streams.enter(stream)?;
+        self.streams.add_if_new(stream)?;
         Ok(())
     }
 
     /// Takes a line about a message that has ended.
-    fn take_after_end<O: Out>(
+    fn take_line_after_end<O: Out>(
         &mut self,
         out: &mut O,
         key: Key,
-        said: Said<'_>,
+        said: Statement<'_>,
     ) -> Result<(), ViewError> {
         self.note_time(key, said)?;
         if let Some(message) = self.open.current() {
-            message.take(said)?;
-            if message.facts.may_wait() {
+            message.take_statement(said)?;
+            if message.facts.may_be_told_more() {
                 return Ok(());
             }
         }
-        self.end_current(out)
+        self.end_current_message(out)
     }
 
     /// Ends the message of the last line.
-    fn end_current<O: Out>(&mut self, out: &mut O) -> Result<(), ViewError> {
+    fn end_current_message<O: Out>(&mut self, out: &mut O) -> Result<(), ViewError> {
         match self.open.current_key() {
             None => Ok(()),
             Some(key) => self.end_message(out, key),
@@ -166,7 +170,7 @@ impl<V: Maker + Drop> Dump<V> {
             return Ok(());
         };
         if let Some(stream) = self.streams.get_mut(key.stream) {
-            stream.turn(message.facts.kind());
+            stream.note_sender(message.facts.kind());
         }
         self.maker
             .end_message(out, &self.streams, &mut self.open, message)
@@ -175,22 +179,22 @@ impl<V: Maker + Drop> Dump<V> {
     /// Ends an open message without the line that ends it.
     fn cut_message<O: Out>(&mut self, out: &mut O, key: Key) -> Result<(), ViewError> {
         if let Some(stream) = self.streams.get_mut(key.stream) {
-            stream.remove(key.number);
+            stream.forget_open(key.number);
         }
         self.end_message(out, key)
     }
 
     /// Takes a line of a message.
-    fn take_of_message<O: Out>(
+    fn take_message_line<O: Out>(
         &mut self,
         out: &mut O,
         key: Key,
-        said: Said<'_>,
+        said: Statement<'_>,
     ) -> Result<(), ViewError> {
-        if let Said::Start(start) = said {
+        if let Statement::Start(start) = said {
             self.take_start(out, key, start)?;
         }
-        if !self.open.select(key)? {
+        if !self.open.make_current(key)? {
             self.begin_message(out, key)?;
         }
         self.note_time(key, said)?;
@@ -198,15 +202,17 @@ impl<V: Maker + Drop> Dump<V> {
             return Ok(());
         };
         match said {
-            Said::Value(path, value) => {
-                message.facts.note(path, value);
+            Statement::Value(path, value) => {
+                message.facts.note_value(path, value);
                 self.maker.take_value(message, path, value)?;
             }
-            Said::Rest(_, _) | Said::Later(_) => self.maker.take_more(message, said)?,
-            _ => message.take(said)?,
+            Statement::Rest(_, _) | Statement::Later(_) => self
+                .maker
+                .take_rest_or_later(message, said)?,
+            _ => message.take_statement(said)?,
         }
-        if is_last(said) {
-            return self.take_last(out, key, said);
+        if ends_message(said) {
+            return self.take_ending_line(out, key, said);
         }
         Ok(())
     }
@@ -223,7 +229,7 @@ impl<V: Maker + Drop> Dump<V> {
             return Ok(());
         };
         let is_alone = !start.more || start.kind == b"Fragment".as_slice();
-        let before = stream.begin_alone(if is_alone { key.number } else { 0 });
+        let before = stream.swap_last_in_one_piece(if is_alone { key.number } else { 0 });
         for number in [before, key.number] {
             let other = Key {
                 stream: key.stream,
@@ -238,42 +244,42 @@ impl<V: Maker + Drop> Dump<V> {
 
     /// Begins a message that isn't open. If there is no room for one more, the one that began first ends.
     fn begin_message<O: Out>(&mut self, out: &mut O, key: Key) -> Result<(), ViewError> {
-        if let Some(first) = self.open.first_without_room() {
+        if let Some(first) = self.open.first_if_full() {
             self.cut_message(out, first)?;
         }
         if let Some(stream) = self.streams.get_mut(key.stream) {
-            stream.enter(key.number)?;
+            stream.note_open(key.number)?;
         }
-        self.open.begin(self.alloc, key)?;
+        self.open.begin_message(self.alloc, key)?;
         Ok(())
     }
 
     /// Notes the time of a message as the last one of its stream.
-    fn note_time(&mut self, key: Key, said: Said<'_>) -> Result<(), AllocError> {
-        if let Said::Time(time) = said
+    fn note_time(&mut self, key: Key, said: Statement<'_>) -> Result<(), AllocError> {
+        if let Statement::Time(time) = said
             && let Some(stream) = self.streams.get_mut(key.stream)
         {
-            stream.take_time(time.time)?;
+            stream.note_last_time(time.time)?;
         }
         Ok(())
     }
 
     /// Takes the line that ends the current message.
-    fn take_last<O: Out>(
+    fn take_ending_line<O: Out>(
         &mut self,
         out: &mut O,
         key: Key,
-        said: Said<'_>,
+        said: Statement<'_>,
     ) -> Result<(), ViewError> {
         if let Some(stream) = self.streams.get_mut(key.stream) {
-            stream.remove(key.number);
+            stream.forget_open(key.number);
         }
-        if let Said::Continues(number) = said {
-            self.open.join(number)?;
+        if let Statement::Continues(number) = said {
+            self.open.count_fragment(number)?;
         }
         if let Some(message) = self.open.current()
             && key.stream > 0
-            && message.facts.may_wait()
+            && message.facts.may_be_told_more()
         {
             message.is_waiting = true;
             return Ok(());
@@ -282,17 +288,17 @@ impl<V: Maker + Drop> Dump<V> {
     }
 
     /// Takes a line of a stream or a capture.
-    fn take_of_stream<O: Out>(
+    fn take_stream_line<O: Out>(
         &mut self,
         out: &mut O,
         number: u64,
-        said: Said<'_>,
+        said: Statement<'_>,
     ) -> Result<(), ViewError> {
-        self.streams.take(number, said)?;
+        self.streams.take_statement(number, said)?;
         if let Some(stream) = self.streams.get(number) {
-            self.maker.take_of_stream(out, stream, said)?;
+            self.maker.take_stream_line(out, stream, said)?;
         }
-        if let Said::Total(_) = said {
+        if let Statement::Total(_) = said {
             return self.end_stream(out, number);
         }
         Ok(())
@@ -303,14 +309,14 @@ impl<V: Maker + Drop> Dump<V> {
         let Some(stream) = self.streams.get_mut(number) else {
             return Ok(());
         };
-        for message in stream.take_open(self.alloc) {
+        for message in stream.take_open_messages(self.alloc) {
             let key = Key {
                 stream: number,
                 number: message,
             };
             self.end_message(out, key)?;
         }
-        match self.streams.end(number) {
+        match self.streams.remove_stream(number) {
             None => Ok(()),
             Some((stream, ending)) => {
                 self.maker.end_stream(out, &stream, ending, &mut self.open)
@@ -320,39 +326,40 @@ impl<V: Maker + Drop> Dump<V> {
 
     /// Makes room, if more is held than may be.
     #[inline]
-    fn make_room<O: Out>(&mut self, out: &mut O) -> Result<(), ViewError> {
-        if !self.maker.is_full(self.open.held()) {
+    fn reduce_held_text<O: Out>(&mut self, out: &mut O) -> Result<(), ViewError> {
+        if !self.maker.holds_too_much(self.open.held_octets()) {
             return Ok(());
         }
-        self.maker.make_room(out, &self.streams, &mut self.open)
+        self.maker
+            .reduce_held_text(out, &self.streams, &mut self.open)
     }
 }
 
 impl<V: Maker + Drop> View for Dump<V> {
     #[inline]
-    fn take<O: Out>(&mut self, out: &mut O, line: DumpLine<'_>) -> Result<(), ViewError> {
+    fn take_line<O: Out>(&mut self, out: &mut O, line: DumpLine<'_>) -> Result<(), ViewError> {
         let key = Key {
             stream: line.stream,
             number: line.message,
         };
-        if let Said::Value(path, value) = line.said
+        if let Statement::Value(path, value) = line.said
             && let Some(message) = self.open.current()
             && message.key == key
             && !message.is_waiting
         {
-            message.facts.note(path, value);
+            message.facts.note_value(path, value);
             self.maker.take_value(message, path, value)?;
-            return self.make_room(out);
+            return self.reduce_held_text(out);
         }
-        self.take_other(out, key, line.said)
+        self.take_other_line(out, key, line.said)
     }
 
     fn finish<O: Out>(&mut self, out: &mut O) -> Result<(), ViewError> {
         if self.open.is_waiting() {
-            self.end_current(out)?;
+            self.end_current_message(out)?;
         }
         for _ in 0..self.streams.len() {
-            match self.streams.first() {
+            match self.streams.first_begun() {
                 None => break,
                 Some(number) => self.end_stream(out, number)?,
             }

@@ -16,7 +16,7 @@ pub struct Endpoint<'a> {
 
 impl<'a> Endpoint<'a> {
     /// The endpoint that the text of a line names.
-    pub fn of(end: &'a str) -> Endpoint<'a> {
+    pub fn of_text(end: &'a str) -> Endpoint<'a> {
         let (address, port) = match end.rsplit_once(':') {
             None => (end, None),
             Some((address, port)) => (address, number(port.as_bytes())),
@@ -30,12 +30,12 @@ impl<'a> Endpoint<'a> {
 }
 
 /// Appends octets, given by two hexadecimal digits each, in the form of a line's text.
-pub fn object_text(text: &mut Vec<u8>, digits: &[u8]) -> Result<(), AllocError> {
+pub fn append_hex_as_text(text: &mut Vec<u8>, digits: &[u8]) -> Result<(), AllocError> {
     for pair in digits.chunks(2) {
         let [high, low] = pair else {
             break;
         };
-        let octet = digit(*high) * 16 + digit(*low);
+        let octet = hex_digit_value(*high) * 16 + hex_digit_value(*low);
         if (0x20..=0x7e).contains(&octet) && octet != b'"' && octet != b'\\' {
             text.push(octet)?;
         } else {
@@ -46,7 +46,7 @@ pub fn object_text(text: &mut Vec<u8>, digits: &[u8]) -> Result<(), AllocError> 
 }
 
 /// The number of a hexadecimal digit.
-fn digit(octet: u8) -> u8
+fn hex_digit_value(octet: u8) -> u8
     ensures { result < 16 }
 {
     match octet {

@@ -2,8 +2,8 @@
 
 use crate::message::Key;
 use giop_cdr::Order;
-use giop_json_values::Text;
-use giop_lines::{Answers, Call, Fault, Said, Start, Time, Value};
+use giop_json_values::JsonText;
+use giop_lines::{Answers, Call, Fault, Start, Statement, Time, Value};
 use std::alloc::{AllocError, Global};
 
 /// What kind of message it is, as far as a view makes a difference.
@@ -23,7 +23,7 @@ pub enum Kind {
 
 impl Kind {
     /// The kind of message that the word of a message type names.
-    fn of(word: &[u8]) -> Kind {
+    fn of_word(word: &[u8]) -> Kind {
         match word {
             b"Request" => Kind::Request,
             b"Reply" => Kind::Reply,
@@ -62,7 +62,7 @@ pub enum Status {
 
 impl Status {
     /// The status that has this name.
-    fn of(name: &[u8]) -> Status {
+    fn of_name(name: &[u8]) -> Status {
         match name {
             b"NO_EXCEPTION" => Status::Result,
             b"USER_EXCEPTION" => Status::User,
@@ -124,7 +124,7 @@ pub struct Facts {
     /// Whether its stream ended before it did.
     pub is_unfinished: bool,
     /// Why it isn't read to its end, if it isn't.
-    pub fault: Faulted,
+    pub fault: NotedFault,
 }
 
 impl Facts {
@@ -148,7 +148,7 @@ impl Facts {
             continues: 0,
             cancelled_by: 0,
             is_unfinished: false,
-            fault: Faulted::new(alloc),
+            fault: NotedFault::new(alloc),
         }
     }
 
@@ -181,7 +181,7 @@ impl Facts {
 
     /// Whether, after the message's end, a line may still tell its time, the call that it answers, or the exception that it
     /// raises.
-    pub(crate) fn may_wait(&self) -> bool {
+    pub(crate) fn may_be_told_more(&self) -> bool {
         let is_other = self.header.is_some() && self.kind != Kind::Reply;
         let is_whole = self.has_time && (is_other || self.answers.is_some());
         let has_raised = self.has_exception || matches!(self.status, Status::User | Status::System);
@@ -190,7 +190,7 @@ impl Facts {
 
     /// Notes what the header says about replies, and that the id of an exception came.
     #[inline]
-    pub(crate) fn note(&mut self, path: &[u8], value: Value<'_>) {
+    pub(crate) fn note_value(&mut self, path: &[u8], value: Value<'_>) {
         match value {
             Value::Octet(flags) if path == b"header.response_flags".as_slice() => {
                 self.is_oneway = flags % 2 == 0;
@@ -199,7 +199,7 @@ impl Facts {
                 self.is_oneway = !is_expected;
             }
             Value::Enum(status) if path == b"header.reply_status".as_slice() => {
-                self.status = Status::of(status);
+                self.status = Status::of_name(status);
             }
             Value::Piece(_) if path == b"exception".as_slice() => self.has_exception = true,
             _ => {}
@@ -207,14 +207,14 @@ impl Facts {
     }
 
     /// Takes a line that isn't a value.
-    pub(crate) fn take(&mut self, said: Said<'_>) -> Result<(), AllocError> {
+    pub(crate) fn take_statement(&mut self, said: Statement<'_>) -> Result<(), AllocError> {
         match said {
-            Said::Start(start) => self.take_start(start),
-            Said::Time(time) => self.take_time(time),
-            Said::Call(call) => self.take_call(call),
-            Said::Answers(answers) => self.take_answers(answers),
-            Said::Raises(id) => replace(&mut self.raises, id),
-            Said::Fault(fault) => self.fault.take(fault),
+            Statement::Start(start) => self.take_start(start),
+            Statement::Time(time) => self.take_time(time),
+            Statement::Call(call) => self.take_call(call),
+            Statement::Answers(answers) => self.take_answers(answers),
+            Statement::Raises(id) => replace_octets(&mut self.raises, id),
+            Statement::Fault(fault) => self.fault.note_fault(fault),
             _ => {
                 self.take_end(said);
                 Ok(())
@@ -222,11 +222,11 @@ impl Facts {
         }
     }
 
-    fn take_end(&mut self, said: Said<'_>) {
+    fn take_end(&mut self, said: Statement<'_>) {
         match said {
-            Said::Continues(message) => self.continues = message,
-            Said::Cancelled(message) => self.cancelled_by = message,
-            Said::Unfinished => self.is_unfinished = true,
+            Statement::Continues(message) => self.continues = message,
+            Statement::Cancelled(message) => self.cancelled_by = message,
+            Statement::Unfinished => self.is_unfinished = true,
             _ => {}
         }
     }
@@ -238,8 +238,8 @@ impl Facts {
             size: start.size,
             more: start.more,
         });
-        self.kind = Kind::of(start.kind);
-        replace(&mut self.word, start.kind)
+        self.kind = Kind::of_word(start.kind);
+        replace_octets(&mut self.word, start.kind)
     }
 
     fn take_time(&mut self, time: Time<'_>) -> Result<(), AllocError> {
@@ -247,15 +247,15 @@ impl Facts {
         if let Some(packet) = time.packet {
             self.packet = packet;
         }
-        replace_known(&mut self.time, time.time)
+        replace_if_known(&mut self.time, time.time)
     }
 
     fn take_call(&mut self, call: Call<'_>) -> Result<(), AllocError> {
         self.call = Some(call.id);
         if let Some(interface) = call.interface {
-            replace(&mut self.interface, interface)?;
+            replace_octets(&mut self.interface, interface)?;
         }
-        replace(&mut self.operation, call.operation)
+        replace_octets(&mut self.operation, call.operation)
     }
 
     fn take_answers(&mut self, answers: Answers<'_>) -> Result<(), AllocError> {
@@ -263,24 +263,24 @@ impl Facts {
             stream: answers.stream,
             number: answers.message,
         });
-        replace(&mut self.operation, answers.operation)?;
-        replace_known(&mut self.seconds, answers.seconds)
+        replace_octets(&mut self.operation, answers.operation)?;
+        replace_if_known(&mut self.seconds, answers.seconds)
     }
 }
 
 /// A fault, if there is one.
 #[derive(Drop)]
-pub struct Faulted {
+pub struct NotedFault {
     /// The word of the fault. It is empty if there is none.
     pub word: Vec<u8>,
     /// The octet at which reading ended.
     pub place: u64,
 }
 
-impl Faulted {
+impl NotedFault {
     /// Makes one without a fault.
-    pub fn new(alloc: Global) -> Faulted {
-        Faulted {
+    pub fn new(alloc: Global) -> NotedFault {
+        NotedFault {
             word: Vec::new(alloc),
             place: 0,
         }
@@ -297,34 +297,34 @@ impl Faulted {
     }
 
     /// Notes a fault.
-    pub fn take(&mut self, fault: Fault<'_>) -> Result<(), AllocError> {
+    pub fn note_fault(&mut self, fault: Fault<'_>) -> Result<(), AllocError> {
         self.place = fault.place;
-        replace(&mut self.word, fault.word)
+        replace_octets(&mut self.word, fault.word)
     }
 
     /// Writes the member `fault`, if there is one.
-    pub fn put(&self, text: &mut Text) -> Result<(), AllocError> {
+    pub fn put_member(&self, text: &mut JsonText) -> Result<(), AllocError> {
         if self.is_none() {
             return Ok(());
         }
         text.key("fault")?;
         text.open(false)?;
-        text.known("word", &self.word)?;
-        text.total("at", self.place)?;
+        text.text_member_if_known("word", &self.word)?;
+        text.number_member("at", self.place)?;
         text.close(false)
     }
 }
 
 /// Puts octets in place of those that were kept.
-pub fn replace(kept: &mut Vec<u8>, octets: &[u8]) -> Result<(), AllocError> {
+pub fn replace_octets(kept: &mut Vec<u8>, octets: &[u8]) -> Result<(), AllocError> {
     kept.clear();
     kept.extend_from_slice(octets)
 }
 
 /// Puts a text in place of the one that was kept, unless the text is `-`, which means that nothing is known.
-pub fn replace_known(kept: &mut Vec<u8>, octets: &[u8]) -> Result<(), AllocError> {
+pub fn replace_if_known(kept: &mut Vec<u8>, octets: &[u8]) -> Result<(), AllocError> {
     if octets == b"-".as_slice() {
         return Ok(());
     }
-    replace(kept, octets)
+    replace_octets(kept, octets)
 }

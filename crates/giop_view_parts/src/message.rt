@@ -3,8 +3,8 @@
 ghost use Rattle.std.specs.Prelude.{◌≡◌};
 
 use crate::facts::Facts;
-use crate::view::is_last;
-use giop_lines::Said;
+use crate::view::ends_message;
+use giop_lines::Statement;
 use std::alloc::{AllocError, Global};
 
 /// The octets of the header of a message (GIOP Message Header).
@@ -20,7 +20,7 @@ pub struct Key {
 }
 
 /// What a view keeps of a message in addition to its facts.
-pub trait Own: Drop {
+pub trait ViewData: Drop {
     /// Makes one for a message that nothing is known of.
     fn new(alloc: Global) -> Self;
 
@@ -28,12 +28,12 @@ pub trait Own: Drop {
     fn clear(&mut self);
 
     /// How many octets of text are held.
-    fn size(&self) -> u64;
+    fn text_octets(&self) -> u64;
 }
 
 /// A message, as far as its lines have come.
 #[derive(Drop)]
-pub struct Message<M: Own> {
+pub struct Message<M: ViewData> {
     /// The numbers that name it.
     pub key: Key,
     /// How many messages began before it.
@@ -53,7 +53,7 @@ pub struct Message<M: Own> {
     pub own: M,
 }
 
-impl<M: Own> Message<M> {
+impl<M: ViewData> Message<M> {
     pub(crate) fn new(alloc: Global) -> Message<M> {
         Message {
             key: Key {
@@ -71,7 +71,7 @@ impl<M: Own> Message<M> {
     }
 
     /// Becomes another message, that nothing is known of. `order` is the number of messages that began before it.
-    pub(crate) fn begin(&mut self, key: Key, order: u64) {
+    pub(crate) fn restart(&mut self, key: Key, order: u64) {
         self.key = key;
         self.order = order;
         self.is_waiting = false;
@@ -83,19 +83,19 @@ impl<M: Own> Message<M> {
     }
 
     /// Takes a line that isn't a value.
-    pub(crate) fn take(&mut self, said: Said<'_>) -> Result<(), AllocError> {
-        if let Said::Start(start) = said {
+    pub(crate) fn take_statement(&mut self, said: Statement<'_>) -> Result<(), AllocError> {
+        if let Statement::Start(start) = said {
             self.octets = self
                 .octets
                 .saturating_add(HEADER)
                 .saturating_add(u64::from(start.size));
         }
-        self.has_ended |= is_last(said);
-        self.facts.take(said)
+        self.has_ended |= ends_message(said);
+        self.facts.take_statement(said)
     }
 
     /// Counts a Fragment with this number of octets that continues it.
-    pub(crate) fn join(&mut self, octets: u64)
+    pub(crate) fn add_fragment(&mut self, octets: u64)
         ensures { self.new.key ≡ self.old.key }
     {
         self.fragments = self.fragments.saturating_add(1);

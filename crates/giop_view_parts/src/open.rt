@@ -2,8 +2,8 @@
 
 ghost use Rattle.std.specs.Prelude.{◌≡◌, Some, IfSome, option_map};
 
-use crate::message::{Key, Message, Own};
-use crate::pool::{OF_A_MESSAGE, Place, Pool, Rank, rank};
+use crate::message::{Key, Message, ViewData};
+use crate::pool::{OF_A_MESSAGE, Pool, TextRank, WaitingKey, text_rank};
 use std::alloc::{AllocError, Global};
 
 /// The greatest number of open messages. If there is one more, the one that began first ends.
@@ -16,21 +16,21 @@ const SPARE_MAX: usize = 16;
 #[derive(Drop)]
 pub struct OwnKey;
 
-impl Place for OwnKey {
-    ghost place = { λ own _. Some own };
+impl WaitingKey for OwnKey {
+    ghost waiting_key = { λ own _. Some own };
 }
 
 /// The open messages. The message of the last line is kept apart, because most lines are of the same message as the line
 /// before.
 #[derive(Drop)]
-pub struct Open<M: Own> {
+pub struct Open<M: ViewData> {
     current: Option<Box<Message<M>>>,
     others: Pool<M, OwnKey>,
     begun: u64,
     spare: Vec<Box<Message<M>>>,
 }
 
-impl<M: Own> Open<M> {
+impl<M: ViewData> Open<M> {
     /// Makes a set in which none is open.
     pub(crate) fn new(alloc: Global) -> Open<M> {
         Open {
@@ -77,12 +77,12 @@ impl<M: Own> Open<M> {
 
     /// How many octets are held.
     #[inline]
-    pub fn held(&self) -> u64 {
+    pub fn held_octets(&self) -> u64 {
         let current = match &self.current {
             None => 0,
-            Some(message) => message.own.size().saturating_add(OF_A_MESSAGE),
+            Some(message) => message.own.text_octets().saturating_add(OF_A_MESSAGE),
         };
-        current.saturating_add(self.others.held())
+        current.saturating_add(self.others.held_octets())
     }
 
     /// Takes a message out of the open ones.
@@ -109,7 +109,7 @@ impl<M: Own> Open<M> {
     }
 
     /// Makes a message the current one. Returns whether it is open; if it isn't, there is no current message.
-    pub(crate) fn select(&mut self, key: Key) -> Result<bool, AllocError> {
+    pub(crate) fn make_current(&mut self, key: Key) -> Result<bool, AllocError> {
         if self.current_key() == Some(key) {
             return Ok(true);
         }
@@ -124,27 +124,27 @@ impl<M: Own> Open<M> {
     }
 
     /// The message that began first, if there is no room for one more.
-    pub(crate) fn first_without_room(&self) -> Option<Key> {
+    pub(crate) fn first_if_full(&self) -> Option<Key> {
         if self.others.len() < OPEN_MAX {
             return None;
         }
-        self.others.first()
+        self.others.first_begun()
     }
 
     /// Begins a message, and makes it the current one.
-    pub(crate) fn begin(&mut self, alloc: Global, key: Key) -> Result<(), AllocError> {
+    pub(crate) fn begin_message(&mut self, alloc: Global, key: Key) -> Result<(), AllocError> {
         let mut message = match self.spare.pop() {
             Some(message) => message,
             None => Box::new(alloc, Message::new(alloc))?,
         };
-        message.begin(key, self.begun);
+        message.restart(key, self.begun);
         self.begun = self.begun.saturating_add(1);
         self.current = Some(message);
         Ok(())
     }
 
     /// Keeps the room of a message that is over.
-    pub fn give_room(&mut self, message: Box<Message<M>>) -> Result<(), AllocError> {
+    pub fn keep_spare(&mut self, message: Box<Message<M>>) -> Result<(), AllocError> {
         if self.spare.len() < SPARE_MAX {
             self.spare.push(message)?;
         }
@@ -152,7 +152,7 @@ impl<M: Own> Open<M> {
     }
 
     /// A message that is over, whose room is kept, if there is one.
-    pub fn spare(&mut self) -> Option<&mut Message<M>> {
+    pub fn spare_message(&mut self) -> Option<&mut Message<M>> {
         match self.spare.last_mut() {
             None => None,
             Some(message) => Some(message),
@@ -160,7 +160,7 @@ impl<M: Own> Open<M> {
     }
 
     /// Counts the octets of the current message, a Fragment, for the message that it continues, if that is open.
-    pub(crate) fn join(&mut self, number: u64) -> Result<(), AllocError> {
+    pub(crate) fn count_fragment(&mut self, number: u64) -> Result<(), AllocError> {
         let Some(fragment) = &mut self.current else {
             return Ok(());
         };
@@ -169,7 +169,7 @@ impl<M: Own> Open<M> {
             number,
         };
         if let Some(mut initial) = self.others.remove(key) {
-            initial.join(fragment.octets);
+            initial.add_fragment(fragment.octets);
             fragment.octets = 0;
             self.others.insert(key, initial)?;
         }
@@ -178,11 +178,11 @@ impl<M: Own> Open<M> {
 
     /// The message that holds the most text. If several hold the same, it is the one that began first. None if no message
     /// holds text.
-    pub fn most(&self) -> Option<(Rank, Key)> {
-        let other = self.others.most();
+    pub fn most_text(&self) -> Option<(TextRank, Key)> {
+        let other = self.others.most_text();
         match &self.current {
-            Some(message) if message.own.size() > 0 => greater(
-                Some((rank(message), message.key)),
+            Some(message) if message.own.text_octets() > 0 => greater_rank(
+                Some((text_rank(message), message.key)),
                 other,
             ),
             _ => other,
@@ -191,7 +191,10 @@ impl<M: Own> Open<M> {
 }
 
 /// The one of two messages that holds more text.
-pub fn greater(one: Option<(Rank, Key)>, other: Option<(Rank, Key)>) -> Option<(Rank, Key)> {
+pub fn greater_rank(
+    one: Option<(TextRank, Key)>,
+    other: Option<(TextRank, Key)>,
+) -> Option<(TextRank, Key)> {
     match (one, other) {
         (Some((rank, _)), Some((most, _))) if rank < most => other,
         (None, _) => other,

@@ -2,7 +2,7 @@
 
 ghost use Rattle.std.specs.Prelude.{◌≡◌, Some, IfSome};
 
-use crate::message::{Key, Message, Own};
+use crate::message::{Key, Message, ViewData};
 use std::alloc::{AllocError, Global};
 use std::collections::{BTreeMap, HashMap};
 use std::marker::{Model, PhantomData};
@@ -12,34 +12,34 @@ pub(crate) const OF_A_MESSAGE: u64 = 1_024;
 
 /// How much text a message holds, and when it began. Of two messages with equal texts the one that began first has the
 /// greater rank.
-pub type Rank = (u64, u64);
+pub type TextRank = (u64, u64);
 
 /// The rank of a message.
-pub(crate) fn rank<M: Own>(message: &Message<M>) -> Rank {
-    (message.own.size(), u64::MAX - message.order)
+pub(crate) fn text_rank<M: ViewData>(message: &Message<M>) -> TextRank {
+    (message.own.text_octets(), u64::MAX - message.order)
 }
 
 /// The key under which a message waits.
-pub trait Place {
+pub trait WaitingKey {
     ghost use Rattle.std.specs.Prelude.{Option};
     ghost use Rattle.giop_view_parts.specs.declared.message.Key.{Key};
 
     /// The key for a message, by its own key and by the key of the call that it answers.
-    ghost place: { Key → Option Key → Option Key };
+    ghost waiting_key: { Key → Option Key → Option Key };
 }
 
 /// Messages that wait, each under its key.
 #[derive(Drop)]
-pub struct Pool<M: Own, P: Place> {
+pub struct Pool<M: ViewData, P: WaitingKey> {
     place: PhantomData<P>,
     messages: HashMap<Key, Box<Message<M>>>,
     by_order: BTreeMap<u64, Key>,
     // The messages that hold text.
-    by_text: BTreeMap<Rank, Key>,
+    by_text: BTreeMap<TextRank, Key>,
     text: u64,
 }
 
-impl<M: Own, P: Place> Model for Pool<M, P> {
+impl<M: ViewData, P: WaitingKey> Model for Pool<M, P> {
     ghost use Rattle.std.specs.Prelude.{◌≡◌, Some};
     ghost use Rattle.std.specs.HashMap.{get};
     ghost use Rattle.std.specs.Option.{ForSome};
@@ -50,10 +50,10 @@ impl<M: Own, P: Place> Model for Pool<M, P> {
     ghost view = { λ _. tt };
 
     ghost invariant = { λ p. (key : Key) → ForSome (get ⟦<Key as PartialEq>⟧.eq p.messages key)
-        (λ m. P.place m.value.key m.value.facts.answers ≡ Some key) };
+        (λ m. P.waiting_key m.value.key m.value.facts.answers ≡ Some key) };
 }
 
-impl<M: Own, P: Place> Pool<M, P> {
+impl<M: ViewData, P: WaitingKey> Pool<M, P> {
     /// Makes a pool without messages.
     pub fn new(alloc: Global) -> Pool<M, P> {
         Pool {
@@ -77,7 +77,7 @@ impl<M: Own, P: Place> Pool<M, P> {
 
     /// How many octets are held.
     #[inline]
-    pub fn held(&self) -> u64 {
+    pub fn held_octets(&self) -> u64 {
         (self.messages.len() as u64)
             .saturating_mul(OF_A_MESSAGE)
             .saturating_add(self.text)
@@ -85,9 +85,9 @@ impl<M: Own, P: Place> Pool<M, P> {
 
     /// Puts a message under a key.
     pub fn insert(&mut self, key: Key, message: Box<Message<M>>) -> Result<(), AllocError>
-        requires { P.place message.value.key message.value.facts.answers ≡ Some key }
+        requires { P.waiting_key message.value.key message.value.facts.answers ≡ Some key }
     {
-        let (size, place) = rank(&message);
+        let (size, place) = text_rank(&message);
         self.by_order.insert(message.order, key)?;
         if size > 0 {
             self.by_text.insert((size, place), key)?;
@@ -99,10 +99,10 @@ impl<M: Own, P: Place> Pool<M, P> {
 
     /// Takes the message under a key.
     pub fn remove(&mut self, key: Key) -> Option<Box<Message<M>>>
-        ensures { IfSome result (λ m. P.place m.value.key m.value.facts.answers ≡ Some key) }
+        ensures { IfSome result (λ m. P.waiting_key m.value.key m.value.facts.answers ≡ Some key) }
     {
         let message = self.messages.remove(&key)?;
-        let (size, place) = rank(&message);
+        let (size, place) = text_rank(&message);
         let _ = self.by_order.remove(&message.order);
         let _ = self.by_text.remove(&(size, place));
         self.text = self.text.saturating_sub(size);
@@ -110,14 +110,14 @@ impl<M: Own, P: Place> Pool<M, P> {
     }
 
     /// The key of the message that began first.
-    pub fn first(&self) -> Option<Key> {
+    pub fn first_begun(&self) -> Option<Key> {
         let (_, key) = self.by_order.first_key_value()?;
         Some(*key)
     }
 
     /// The message that holds the most text. If several hold the same, it is the one that began first. None if no message
     /// holds text.
-    pub fn most(&self) -> Option<(Rank, Key)> {
+    pub fn most_text(&self) -> Option<(TextRank, Key)> {
         let (rank, key) = self.by_text.last_key_value()?;
         Some((*rank, *key))
     }

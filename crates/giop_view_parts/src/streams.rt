@@ -1,8 +1,8 @@
 //! The streams that aren't over.
 
-use crate::connections::{Connections, Ending, Of};
-use crate::facts::{Faulted, Kind, replace, replace_known};
-use giop_lines::{Said, StreamStart, Total};
+use crate::connections::{ConnectionEnding, ConnectionId, Connections};
+use crate::facts::{Kind, NotedFault, replace_if_known, replace_octets};
+use giop_lines::{Statement, StreamStart, Total};
 use lru::LruCache;
 use std::alloc::{AllocError, Global};
 
@@ -15,7 +15,7 @@ pub struct Stream {
     /// Its number; 0 in a dump of one stream.
     pub number: u64,
     /// Its connection.
-    pub connection: Option<Of>,
+    pub connection: Option<ConnectionId>,
     /// The endpoint that sends it.
     pub source: Vec<u8>,
     /// The endpoint that receives it.
@@ -33,7 +33,7 @@ pub struct Stream {
     /// The word with which it closed.
     pub closed: Vec<u8>,
     /// Why it isn't read to its end, if it isn't.
-    pub fault: Faulted,
+    pub fault: NotedFault,
     /// Its totals.
     pub total: Option<Total>,
     /// Whether a line told something about the stream itself.
@@ -59,7 +59,7 @@ impl Stream {
             behind: 0,
             is_found: false,
             closed: Vec::new(alloc),
-            fault: Faulted::new(alloc),
+            fault: NotedFault::new(alloc),
             total: None,
             is_told: false,
             is_of_server: false,
@@ -69,7 +69,7 @@ impl Stream {
     }
 
     /// The endpoints of the client and of the server.
-    pub fn ends(&self) -> (&[u8], &[u8]) {
+    pub fn client_and_server(&self) -> (&[u8], &[u8]) {
         if self.is_of_server {
             (&self.target, &self.source)
         } else {
@@ -78,32 +78,32 @@ impl Stream {
     }
 
     /// Notes whether a server sends the stream, if a message of this kind tells it.
-    pub(crate) fn turn(&mut self, kind: Kind) {
+    pub(crate) fn note_sender(&mut self, kind: Kind) {
         if let Some(is_of_server) = kind.is_of_server() {
             self.is_of_server = is_of_server;
         }
     }
 
     /// Notes the time of a message.
-    pub(crate) fn take_time(&mut self, time: &[u8]) -> Result<(), AllocError> {
-        replace_known(&mut self.last, time)
+    pub(crate) fn note_last_time(&mut self, time: &[u8]) -> Result<(), AllocError> {
+        replace_if_known(&mut self.last, time)
     }
 
     /// Notes the last message that began, if it is in one piece, or 0. Returns the one before.
-    pub(crate) fn begin_alone(&mut self, message: u64) -> u64 {
+    pub(crate) fn swap_last_in_one_piece(&mut self, message: u64) -> u64 {
         let before = self.alone;
         self.alone = message;
         before
     }
 
     /// Notes an open message.
-    pub(crate) fn enter(&mut self, message: u64) -> Result<(), AllocError> {
+    pub(crate) fn note_open(&mut self, message: u64) -> Result<(), AllocError> {
         self.open.push(message)?;
         Ok(())
     }
 
     /// Forgets an open message.
-    pub(crate) fn remove(&mut self, message: u64) {
+    pub(crate) fn forget_open(&mut self, message: u64) {
         if let Some(place) = self.open.iter().position(|open| *open == message) {
             if place < self.open.len() {
                 self.open.remove(place);
@@ -112,7 +112,7 @@ impl Stream {
     }
 
     /// Takes the open messages away, and gives them.
-    pub(crate) fn take_open(&mut self, alloc: Global) -> Vec<u64> {
+    pub(crate) fn take_open_messages(&mut self, alloc: Global) -> Vec<u64> {
         std::mem::replace(&mut self.open, Vec::new(alloc))
     }
 
@@ -125,9 +125,9 @@ impl Stream {
             self.behind = behind;
         }
         self.is_found |= start.found;
-        replace(&mut self.source, start.source)?;
-        replace(&mut self.target, start.target)?;
-        replace_known(&mut self.time, start.time)
+        replace_octets(&mut self.source, start.source)?;
+        replace_octets(&mut self.target, start.target)?;
+        replace_if_known(&mut self.time, start.time)
     }
 }
 
@@ -159,15 +159,15 @@ impl Streams {
     }
 
     /// The stream that began first, if there is no room for the stream of this number.
-    pub(crate) fn first_without_room(&self, number: u64) -> Option<u64> {
+    pub(crate) fn first_if_full(&self, number: u64) -> Option<u64> {
         if self.streams.len() < STREAMS_MAX || self.streams.contains(&number) {
             return None;
         }
-        self.first()
+        self.first_begun()
     }
 
     /// The stream that began first.
-    pub(crate) fn first(&self) -> Option<u64> {
+    pub(crate) fn first_begun(&self) -> Option<u64> {
         let (number, _) = self.streams.peek_lru()?;
         Some(*number)
     }
@@ -178,7 +178,7 @@ impl Streams {
     }
 
     /// Notes a stream.
-    pub(crate) fn enter(&mut self, number: u64) -> Result<(), AllocError> {
+    pub(crate) fn add_if_new(&mut self, number: u64) -> Result<(), AllocError> {
         if !self.streams.contains(&number) {
             self.streams.put(number, Stream::new(self.alloc, number))?;
         }
@@ -186,31 +186,35 @@ impl Streams {
     }
 
     /// Forgets a stream. Returns what is then known about its connection.
-    pub(crate) fn end(&mut self, number: u64) -> Option<(Stream, Ending)> {
+    pub(crate) fn remove_stream(&mut self, number: u64) -> Option<(Stream, ConnectionEnding)> {
         let stream = self.streams.pop(&number)?;
         let ending = match stream.connection {
-            None => Ending {
+            None => ConnectionEnding {
                 is_over: false,
                 is_last: true,
             },
-            Some(of) => self.connections.end(of),
+            Some(of) => self.connections.end_stream(of),
         };
         Some((stream, ending))
     }
 
     /// Takes a line about a stream itself.
-    pub(crate) fn take(&mut self, number: u64, said: Said<'_>) -> Result<(), AllocError> {
+    pub(crate) fn take_statement(
+        &mut self,
+        number: u64,
+        said: Statement<'_>,
+    ) -> Result<(), AllocError> {
         match said {
-            Said::Stream(start) => self.begin(number, start),
-            Said::Closed(word) => self.close(number, word),
-            Said::StreamFault(fault) => match self.streams.peek_mut(&number) {
+            Statement::Stream(start) => self.begin_stream(number, start),
+            Statement::Closed(word) => self.close_stream(number, word),
+            Statement::StreamFault(fault) => match self.streams.peek_mut(&number) {
                 None => Ok(()),
                 Some(stream) => {
                     stream.is_told = true;
-                    stream.fault.take(fault)
+                    stream.fault.note_fault(fault)
                 }
             },
-            Said::Total(total) => {
+            Statement::Total(total) => {
                 if let Some(stream) = self.streams.peek_mut(&number) {
                     stream.is_told = true;
                     stream.total = Some(total);
@@ -222,7 +226,7 @@ impl Streams {
     }
 
     /// Takes the beginning of a stream.
-    fn begin(&mut self, number: u64, start: StreamStart<'_>) -> Result<(), AllocError> {
+    fn begin_stream(&mut self, number: u64, start: StreamStart<'_>) -> Result<(), AllocError> {
         let with = match start.with {
             None => None,
             Some(other) => match self.streams.peek(&other) {
@@ -230,36 +234,38 @@ impl Streams {
                 Some(other) => other.connection,
             },
         };
-        let ends = (text_of(start.source), text_of(start.target));
-        let of = self.connections.begin(self.alloc, number, ends, with)?;
+        let ends = (utf8_or_empty(start.source), utf8_or_empty(start.target));
+        let of = self
+            .connections
+            .begin_stream(self.alloc, number, ends, with)?;
         let Some(stream) = self.streams.peek_mut(&number) else {
             return Ok(());
         };
         if let Some(before) = stream.connection {
-            let _ = self.connections.end(before);
+            let _ = self.connections.end_stream(before);
         }
         stream.connection = Some(of);
         stream.take_start(start)
     }
 
     /// Notes the word with which a stream closed.
-    fn close(&mut self, number: u64, word: &[u8]) -> Result<(), AllocError> {
+    fn close_stream(&mut self, number: u64, word: &[u8]) -> Result<(), AllocError> {
         let Some(stream) = self.streams.peek_mut(&number) else {
             return Ok(());
         };
         stream.is_told = true;
-        replace(&mut stream.closed, word)?;
+        replace_octets(&mut stream.closed, word)?;
         match stream.connection {
             None => Ok(()),
             Some(of) => {
-                let ends = (text_of(&stream.source), text_of(&stream.target));
-                self.connections.close(self.alloc, of, ends, word)
+                let ends = (utf8_or_empty(&stream.source), utf8_or_empty(&stream.target));
+                self.connections.close_stream(self.alloc, of, ends, word)
             }
         }
     }
 }
 
 /// Octets of a line as text. If they aren't text, it is empty.
-fn text_of(octets: &[u8]) -> &str {
+fn utf8_or_empty(octets: &[u8]) -> &str {
     str::from_utf8(octets).unwrap_or_default()
 }

@@ -1,7 +1,7 @@
 //! Something that takes the lines of a dump, and writes what it makes of them.
 
 use crate::fault::ViewError;
-use giop_lines::{DumpLine, Said};
+use giop_lines::{DumpLine, Statement};
 use giop_print::Out;
 
 /// What is printed once at the end about the things that there was no room for.
@@ -20,7 +20,7 @@ pub struct Notice {
 /// Something that takes the lines of a dump, and writes what it makes of them.
 pub trait View {
     /// Takes a line, and writes what is due after it.
-    fn take<O: Out>(&mut self, out: &mut O, line: DumpLine<'_>) -> Result<(), ViewError>;
+    fn take_line<O: Out>(&mut self, out: &mut O, line: DumpLine<'_>) -> Result<(), ViewError>;
 
     /// Writes all that is left, because no more lines come.
     fn finish<O: Out>(&mut self, out: &mut O) -> Result<(), ViewError>;
@@ -30,14 +30,21 @@ pub trait View {
 }
 
 /// Whether a line ends its message.
-pub(crate) fn is_last(said: Said<'_>) -> bool {
+pub(crate) fn ends_message(said: Statement<'_>) -> bool {
     matches!(
         said,
-        Said::End | Said::Fault(_) | Said::Cancelled(_) | Said::Continues(_) | Said::Unfinished
+        Statement::End
+            | Statement::Fault(_)
+            | Statement::Cancelled(_)
+            | Statement::Continues(_)
+            | Statement::Unfinished
     )
 }
 
 /// Whether a line may tell about a message that has ended.
-pub(crate) fn is_after_end(said: Said<'_>) -> bool {
-    matches!(said, Said::Time(_) | Said::Answers(_) | Said::Raises(_))
+pub(crate) fn may_follow_end(said: Statement<'_>) -> bool {
+    matches!(
+        said,
+        Statement::Time(_) | Statement::Answers(_) | Statement::Raises(_)
+    )
 }

@@ -63,7 +63,7 @@ fn made_of<V: Maker + Drop>(alloc: Global, maker: V, lines: &str) -> Result<Vec<
     let mut out = Written::new(&mut octets);
     for line in lines.as_bytes().split(|octet| *octet == b'\n') {
         if let Some(line) = read(line) {
-            dump.take(&mut out, line)?;
+            dump.take_line(&mut out, line)?;
         }
     }
     dump.finish(&mut out)?;

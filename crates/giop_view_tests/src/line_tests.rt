@@ -3,33 +3,33 @@
 
 use crate::line_rows::ROWS;
 use giop_lines::{
-    Content, DumpLine, LINE_MAX, Part, Said, Value, first_octet, first_part, integer, number,
-    ordinal, read,
+    Content, DumpLine, LINE_MAX, PathPart, Statement, Value, first_octet, first_part, integer,
+    number, ordinal, read,
 };
 use std::test::Fail;
 
 /// Which line one is, in the words of the rows.
-fn form(said: &Said<'_>) -> &'static str {
+fn form(said: &Statement<'_>) -> &'static str {
     match said {
-        Said::Start(_) => "start",
-        Said::Value(_, value) => form_of_value(value),
-        Said::Rest(_, _) => "rest",
-        Said::Call(_) => "call",
-        Said::Time(_) => "time",
-        Said::Answers(_) => "answers",
-        Said::Raises(_) => "raises",
-        Said::Continues(_) => "continues",
-        Said::Cancelled(_) => "cancelled",
-        Said::Fault(_) => "fault",
-        Said::Unfinished => "unfinished",
-        Said::End => "end",
-        Said::Stream(_) => "stream",
-        Said::StreamFault(_) => "broken",
-        Said::Closed(_) => "closed",
-        Said::Total(_) => "total",
-        Said::CaptureFault(_) => "capture",
-        Said::CaptureTotal(_) => "totals",
-        Said::Later(_) => "later",
+        Statement::Start(_) => "start",
+        Statement::Value(_, value) => form_of_value(value),
+        Statement::Rest(_, _) => "rest",
+        Statement::Call(_) => "call",
+        Statement::Time(_) => "time",
+        Statement::Answers(_) => "answers",
+        Statement::Raises(_) => "raises",
+        Statement::Continues(_) => "continues",
+        Statement::Cancelled(_) => "cancelled",
+        Statement::Fault(_) => "fault",
+        Statement::Unfinished => "unfinished",
+        Statement::End => "end",
+        Statement::Stream(_) => "stream",
+        Statement::StreamFault(_) => "broken",
+        Statement::Closed(_) => "closed",
+        Statement::Total(_) => "total",
+        Statement::CaptureFault(_) => "capture",
+        Statement::CaptureTotal(_) => "totals",
+        Statement::Later(_) => "later",
     }
 }
 
@@ -91,15 +91,16 @@ fn numbers_are_read(rt: HostRuntime) {
 #[test]
 fn a_path_is_gone_through_by_parts(rt: HostRuntime) {
     let body = match first_part(b"body.n[7]") {
-        Some((Part::Root(root), rest)) => root == b"body".as_slice() && rest == b".n[7]".as_slice(),
+        Some((PathPart::Root(root), rest)) => root == b"body".as_slice()
+            && rest == b".n[7]".as_slice(),
         _ => false,
     };
     let name = match first_part(b".n[7]") {
-        Some((Part::Name(name), rest)) => name == b"n".as_slice() && rest == b"[7]".as_slice(),
+        Some((PathPart::Name(name), rest)) => name == b"n".as_slice() && rest == b"[7]".as_slice(),
         _ => false,
     };
     let index = match first_part(b"[7]") {
-        Some((Part::Index(index), rest)) => index == 7 && rest.is_empty(),
+        Some((PathPart::Index(index), rest)) => index == 7 && rest.is_empty(),
         _ => false,
     };
     assert!(rt; body && name && index && first_part(b"").is_none());

@@ -1,7 +1,7 @@
 //! The values of a message as JSON.
 
 use giop_json_values::{Characters, Options, Values};
-use giop_lines::{Said, read};
+use giop_lines::{Statement, read};
 use std::alloc::{AllocError, Global};
 
 /// The characters of JSON are escaped; a type code has all of its parameters, or its id and its name alone.
@@ -61,12 +61,12 @@ fn members_of(alloc: Global, has_types: bool, lines: &str) -> Result<Vec<u8>, Al
     let mut values = Values::new(alloc);
     for line in lines.as_bytes().split(|octet| *octet == b'\n') {
         if let Some(line) = read(line)
-            && let Said::Value(path, value) = line.said
+            && let Statement::Value(path, value) = line.said
         {
-            values.take(options(has_types), path, value)?;
+            values.take_value(options(has_types), path, value)?;
         }
     }
-    values.close()?;
+    values.close_values()?;
     Ok(values.take_text(alloc))
 }
 

@@ -3,9 +3,10 @@
 ghost use Rattle.std.specs.Prelude.{◌≤◌};
 
 use crate::run::{Report, run};
-use crate::watching::Watching;
+use crate::watching::WatchedWriter;
 use giop_run::{
-    Inputs, Lines, Look, ProgramError, Retrying, RunFault, ShownName, Source, failed, open_file,
+    Inputs, Lines, Look, ProgramError, Retrying, RunFault, ShownName, Source, open_file,
+    print_fault,
 };
 use giop_view_parts::{Dump, Maker, Notice, View, ViewError};
 
@@ -26,14 +27,14 @@ pub fn run_view<V: Maker + Drop>(
     ensures { result ≤ 5 }
 {
     let Ok(mut view) = Dump::new(rt.alloc(), maker) else {
-        return failed(rt, program, &ProgramError::OutOfMemory);
+        return print_fault(rt, program, &ProgramError::OutOfMemory);
     };
     let Some(name) = file else {
         return view_source(rt, program, file, rt.standard_input(), &mut view);
     };
     match open_file(rt, name) {
         Ok(source) => view_source(rt, program, file, source, &mut view),
-        Err(fault) => failed(rt, program, &fault),
+        Err(fault) => print_fault(rt, program, &fault),
     }
 }
 
@@ -47,25 +48,25 @@ fn view_source<S: Source + Drop, V: View>(
 ) -> u8
     ensures { result ≤ 5 }
 {
-    let writer = Watching::new(Retrying::new(rt.stdout()));
+    let writer = WatchedWriter::new(Retrying::new(rt.stdout()));
     let Ok(mut out) = Lines::new(rt.alloc(), writer) else {
-        return failed(rt, program, &ProgramError::OutOfMemory);
+        return print_fault(rt, program, &ProgramError::OutOfMemory);
     };
     let mut source = source;
     match run(rt.alloc(), &mut source, &mut out, view) {
         Ok(report) => {
-            say_unknown(rt, program, file, report);
-            let is_lost = say_notice(rt, program, view.notice());
-            status(rt, program, report, is_lost)
+            print_unknown_line(rt, program, file, report);
+            let is_lost = print_notice(rt, program, view.notice());
+            exit_status(rt, program, report, is_lost)
         }
-        Err(ViewError::OutOfMemory) => failed(rt, program, &ProgramError::OutOfMemory),
+        Err(ViewError::OutOfMemory) => print_fault(rt, program, &ProgramError::OutOfMemory),
         Err(ViewError::Out) if out.writer().is_unread() => UNREAD,
-        Err(ViewError::Out) => failed(rt, program, &ProgramError::Run(RunFault::Out)),
+        Err(ViewError::Out) => print_fault(rt, program, &ProgramError::Run(RunFault::Out)),
     }
 }
 
 /// Prints which line no dump can have, if there was one.
-fn say_unknown(rt: &HostRuntime, program: &str, file: Option<&str>, report: Report) {
+fn print_unknown_line(rt: &HostRuntime, program: &str, file: Option<&str>, report: Report) {
     let Some(number) = report.unknown else {
         return;
     };
@@ -83,7 +84,7 @@ fn say_unknown(rt: &HostRuntime, program: &str, file: Option<&str>, report: Repo
 }
 
 /// Prints how many things there was no room for, if there were any. Returns whether something that was due is missing.
-fn say_notice(rt: &HostRuntime, program: &str, notice: Option<Notice>) -> bool {
+fn print_notice(rt: &HostRuntime, program: &str, notice: Option<Notice>) -> bool {
     match notice {
         Some(notice) if notice.count > 0 => {
             let ending = if notice.count == 1 { "" } else { "s" };
@@ -98,11 +99,11 @@ fn say_notice(rt: &HostRuntime, program: &str, notice: Option<Notice>) -> bool {
 }
 
 /// The status of a run. If the source failed, prints that first.
-fn status(rt: &HostRuntime, program: &str, report: Report, is_lost: bool) -> u8
+fn exit_status(rt: &HostRuntime, program: &str, report: Report, is_lost: bool) -> u8
     ensures { result ≤ 5 }
 {
     if report.is_unread {
-        return failed(rt, program, &ProgramError::Run(RunFault::Read));
+        return print_fault(rt, program, &ProgramError::Run(RunFault::Read));
     }
     if report.unknown.is_some() {
         return UNKNOWN;

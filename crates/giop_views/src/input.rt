@@ -33,7 +33,7 @@ impl Input {
     }
 
     /// The number of the last line that was given, from 1.
-    pub fn number(&self) -> u64 {
+    pub fn line_number(&self) -> u64 {
         self.number
     }
 
@@ -43,7 +43,7 @@ impl Input {
     }
 
     /// Reads once. Returns whether octets came.
-    pub fn read<S: Source>(&mut self, source: &mut S) -> Result<bool, SourceFault> {
+    pub fn read_more<S: Source>(&mut self, source: &mut S) -> Result<bool, SourceFault> {
         let left = self.end - self.start;
         self.room.copy_within(self.start..self.end, 0);
         self.start = 0;
@@ -58,7 +58,7 @@ impl Input {
     /// The next line that was read as a whole, without its LF, or octets that are longer than any line. None if more must
     /// be read.
     #[inline]
-    pub fn next(&mut self) -> Option<&[u8]> {
+    pub fn next_line(&mut self) -> Option<&[u8]> {
         let left = &self.room[self.start..self.end];
         let count = match memchr(b'\n', left) {
             Some(count) => count,

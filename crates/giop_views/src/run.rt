@@ -33,7 +33,7 @@ pub(crate) fn run<S: Source, O: Flush, V: View>(
     };
     for _ in 0..u64::MAX {
         flush(out)?;
-        match input.read(source) {
+        match input.read_more(source) {
             Ok(true) => {}
             Ok(false) => break,
             Err(_) => {
@@ -42,7 +42,7 @@ pub(crate) fn run<S: Source, O: Flush, V: View>(
             }
         }
         if !take_lines(&mut input, out, view)? {
-            report.unknown = Some(input.number());
+            report.unknown = Some(input.line_number());
             report.is_capture = input.begins_capture();
             break;
         }
@@ -66,13 +66,13 @@ fn take_lines<O: Flush, V: View>(
     view: &mut V,
 ) -> Result<bool, ViewError> {
     for _ in 0..u64::MAX {
-        let Some(text) = input.next() else {
+        let Some(text) = input.next_line() else {
             break;
         };
         let Some(line) = read(text) else {
             return Ok(false);
         };
-        view.take(out, line)?;
+        view.take_line(out, line)?;
     }
     Ok(true)
 }

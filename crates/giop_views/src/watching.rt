@@ -8,14 +8,14 @@ use std::io::{ErrorKind, Write};
 
 /// A writer that notes whether a write failed because nobody reads what it writes.
 #[derive(Drop)]
-pub(crate) struct Watching<W> {
+pub(crate) struct WatchedWriter<W> {
     inner: W,
     is_unread: bool,
 }
 
-impl<W> Watching<W> {
-    pub(crate) fn new(inner: W) -> Watching<W> {
-        Watching {
+impl<W> WatchedWriter<W> {
+    pub(crate) fn new(inner: W) -> WatchedWriter<W> {
+        WatchedWriter {
             inner,
             is_unread: false,
         }
@@ -27,7 +27,7 @@ impl<W> Watching<W> {
     }
 }
 
-impl<W: Write> Write for Watching<W> {
+impl<W: Write> Write for WatchedWriter<W> {
     ghost contents = { λ p. W.contents p.inner };
 
     fn write(&mut self, octets: &[u8]) -> io::Result<usize>

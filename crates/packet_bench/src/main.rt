@@ -3,7 +3,7 @@
 //! long the reading of captures takes.
 #![tactic(auto)]
 
-ghost use Rattle.capture_file.specs.CaptureState.{IsIn};
+ghost use Rattle.capture_file.specs.CaptureState.{PacketIsIn};
 
 use capture_file::{Capture, Progress};
 use std::io::{self, Read};
@@ -25,11 +25,12 @@ struct Counts {
     payload: u64,
 }
 
-/// Counts the packet that is in these octets.
-fn count_packet(capture: &Capture, octets: &[u8], counts: &mut Counts)
-    requires { IsIn capture.now octets.now }
+/// Counts the TCP segment of the packet that the capture has just completed, if it has one, and the
+/// octets of its payload. The packet stands in what was given to the capture last, or in what it holds.
+fn count_segment(capture: &Capture, given: &[u8], counts: &mut Counts)
+    requires { PacketIsIn capture.now given.now }
 {
-    let packet = capture.packet(octets);
+    let packet = capture.packet(given);
     if let Some(segment) = segment(packet.link, packet.octets) {
         counts.segments = counts.segments.wrapping_add(1);
         counts.payload = counts.payload.wrapping_add(segment.payload.len() as u64);
@@ -43,7 +44,7 @@ fn take_octets(capture: &mut Capture, octets: &[u8], counts: &mut Counts) -> boo
     while capture.octets() < MOST {
         match capture.take(rest) {
             (count, Progress::Packet) => {
-                count_packet(capture, rest, counts);
+                count_segment(capture, rest, counts);
                 rest = &rest[count..];
             }
             (_, Progress::More) => return true,

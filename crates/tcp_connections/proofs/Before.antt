@@ -6,11 +6,11 @@ use Rattle.std.proofs.lemmas.Bool.{cases_Bool, cases_eq, cond-true, cond-false, 
 use Rattle.tcp_flow.specs.declared.flow.CloseCause.{CloseCause}
 use Rattle.tcp_flow.specs.declared.flow.CloseCause.TheVariants.{Fin, Reset, Syn, Fault, Gap, Room, End}
 use Rattle.tcp_flow.specs.Flow.{held_by_others}
-use Rattle.tcp_streams.specs.Lives.{without, begun, ended, most_ids, AreIds}
+use Rattle.tcp_streams.specs.Lives.{without, with_begun, with_closed, most_ids, AreIds}
 use Rattle.tcp_streams.proofs.Ids.{none_left}
 use Rattle.tcp_waiting.specs.Payload.{Payload, load_of}
-use Rattle.tcp_connections.specs.declared.givers.Givers.{Givers}
-use Rattle.tcp_connections.specs.Givers.{IsNoted, number_at, noted_at, rank_of}
+use Rattle.tcp_connections.specs.declared.givers.GapRanks.{GapRanks}
+use Rattle.tcp_connections.specs.Givers.{IsRankSet, recency_of, noted_rank, rank_of}
 use Rattle.tcp_connections.specs.State.{AreRanked, StandBefore, times}
 use Rattle.tcp_connections.proofs.Times.{times_last, times_own}
 
@@ -128,13 +128,13 @@ last_twice a b o (x ∷ xs) e (inr h) = omega (arith, last_twice a b (Some x) xs
 -- ---- After a step of one flow.
 
 -- the order is that of before, but that this flow may have come last
-abbrev pub IsOrdered : ℕ → List ℕ → List ℕ → Type 0
-IsOrdered id base live =
+abbrev pub KeepsOrderBut : (id : ℕ) (base live : List ℕ) → Type 0
+KeepsOrderBut id base live =
     (a b : ℕ) → StandBefore a b live →
     StandBefore a b base ⊎ ((b ≡ id) × (last_or None live ≡ Some id))
 
-order_without : (id : ℕ) (base live : List ℕ) → AreIds live → IsOrdered id base live →
-    IsOrdered id base (without id live)
+order_without : (id : ℕ) (base live : List ℕ) → AreIds live → KeepsOrderBut id base live →
+    KeepsOrderBut id base (without id live)
 order_without id base live ids h a b s =
     elim (h a b (before_without a b id live s)) [
       | inl l ↦ inl l
@@ -144,11 +144,11 @@ order_without id base live ids h a b s =
           absurd (omega (arith, there, none, ap (λ (n : ℕ). times n (without id live)) own.0)))
     ]
 
-pub order_begun : (id : ℕ) (base live : List ℕ) → id < most_ids → IsOrdered id base live →
-    IsOrdered id base (begun id live)
-unfolding begun
+pub order_begun : (id : ℕ) (base live : List ℕ) → id < most_ids → KeepsOrderBut id base live →
+    KeepsOrderBut id base (with_begun id live)
+unfolding with_begun
 order_begun id base live l h =
-    subst (IsOrdered id base)
+    subst (KeepsOrderBut id base)
     (sym (cond-true (nat_lt id most_ids) (without id live ++ id ∷ []) live (lt-ltb id most_ids l)))
     (λ a b s.
     elim (before_last a b id (without id live) s) [
@@ -160,7 +160,7 @@ order_begun id base live l h =
     ])
 
 pub order_ended : (id : ℕ) (cause : CloseCause) (base live : List ℕ) → AreIds live →
-    IsOrdered id base live → IsOrdered id base (ended id cause live)
+    KeepsOrderBut id base live → KeepsOrderBut id base (with_closed id cause live)
 order_ended id Gap base live ids h = h
 order_ended id End base live ids h = h
 order_ended id Fin base live ids h = order_without id base live ids h
@@ -193,28 +193,28 @@ others_twice id (p ∷ ps) = search (arith, cond, nat_eq, others_twice id ps)
 
 -- ---- Ranks.
 
-pub still_ranked : (g g' : Givers) (flows : ℕ) (held : List Payload) (live : List ℕ) → g' ≡ g →
+pub still_ranked : (g g' : GapRanks) (flows : ℕ) (held : List Payload) (live : List ℕ) → g' ≡ g →
     AreRanked g flows held live → AreRanked g' flows held live
 still_ranked g g' flows held live e h =
-    subst (λ (k : Givers). AreRanked k flows held live) (sym e) h
+    subst (λ (k : GapRanks). AreRanked k flows held live) (sym e) h
 
-pub noted_ranked : (g g' : Givers) (id flows : ℕ) (held held' : List Payload)
+pub noted_ranked : (g g' : GapRanks) (id flows : ℕ) (held held' : List Payload)
     (live live' : List ℕ) → AreRanked g flows held live → id < flows →
-    IsNoted g g' id (load_of id held') (last_or None live') →
-    held_by_others id held' ≡ held_by_others id held → IsOrdered id live live' →
+    IsRankSet g g' id (load_of id held') (last_or None live') →
+    held_by_others id held' ≡ held_by_others id held → KeepsOrderBut id live live' →
     IsDistinct eqb live' → AreRanked g' flows held' live'
 noted_ranked g g' id flows held held' live live' h l n others turn apart = record {
   many = n.flows ∙ h.many;
   loads = loads;
   ranks = λ other m.
       elim (cases_eq other id) [
-        | inl e ↦ subst (λ (k : ℕ). noted_at g' k ≡ rank_of (load_of k held') (number_at g' k))
+        | inl e ↦ subst (λ (k : ℕ). noted_rank g' k ≡ rank_of (load_of k held') (recency_of g' k))
             (sym e) (n.ranks id (omega (arith, l, h.many))
             ∙ cond-true (nat_eq id id) _ _ (eq-eqb id id refl))
         | inr ne ↦ n.ranks other (omega (arith, m, h.many))
             ∙ cond-false (nat_eq other id) _ _ (ne_eqb other id ne)
             ∙ h.ranks other m
-            ∙ ap (λ (k : ℕ). rank_of k (number_at g other)) (sym (beside other ne))
+            ∙ ap (λ (k : ℕ). rank_of k (recency_of g other)) (sym (beside other ne))
             ∙ ap (rank_of (load_of other held')) (sym (n.beside other ne))
       ];
   order = λ a b s. by a b s (turn a b s);
@@ -232,20 +232,20 @@ noted_ranked g g' id flows held held' live live' h l n others turn apart = recor
           | inr ne ↦ omega (arith, beside other ne, h.loads other)
         ]
 
-    last : (a b : ℕ) → b ≡ id → last_or None live' ≡ Some id → number_at g' a ≤ number_at g' b
-    last a b e is = subst (λ (k : ℕ). number_at g' a ≤ number_at g' k) (sym e)
+    last : (a b : ℕ) → b ≡ id → last_or None live' ≡ Some id → recency_of g' a ≤ recency_of g' b
+    last a b e is = subst (λ (k : ℕ). recency_of g' a ≤ recency_of g' k) (sym e)
         (n.greatest is (omega (arith, l, h.many)) a)
 
-    same : (a : ℕ) → (last_or None live' ≡ Some id → ⊥) → number_at g' a ≡ number_at g a
+    same : (a : ℕ) → (last_or None live' ≡ Some id → ⊥) → recency_of g' a ≡ recency_of g a
     same a not =
         elim (cases_eq a id) [
-          | inl e ↦ subst (λ (k : ℕ). number_at g' k ≡ number_at g k) (sym e) (n.same not)
+          | inl e ↦ subst (λ (k : ℕ). recency_of g' k ≡ recency_of g k) (sym e) (n.same not)
           | inr ne ↦ n.beside a ne
         ]
 
     by : (a b : ℕ) → StandBefore a b live' →
         StandBefore a b live ⊎ ((b ≡ id) × (last_or None live' ≡ Some id)) →
-        number_at g' a ≤ number_at g' b
+        recency_of g' a ≤ recency_of g' b
     by a b s (inr own) = last a b own.0 own.1
     by a b s (inl t) =
         elim (cases_last (last_or None live') id) [

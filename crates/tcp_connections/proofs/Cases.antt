@@ -7,14 +7,14 @@ use Rattle.tcp_flow.specs.declared.hearing.Heard.{Heard}
 use Rattle.tcp_flow.specs.declared.flow.CloseCause.{CloseCause}
 use Rattle.tcp_flow.specs.declared.flow.CloseCause.TheVariants.{Reset, Syn}
 use Rattle.tcp_flow.specs.declared.flow.FlowState.{FlowState}
-use Rattle.tcp_flow.specs.Flow.{Flow, Passes, Reader, Arrival, Octets, End, Hears, closed, gap, is_lost, step as flow_step, held_by_others}
+use Rattle.tcp_flow.specs.Flow.{Flow, Passes, Reader, Arrival, Octets, End, Hears, closed, with_gap, is_lost, step as flow_step, held_by_others}
 use Rattle.tcp_flow.specs.State.{state}
 use Rattle.tcp_flow.proofs.Steps.{heard_none, heard_stops}
 use Rattle.tcp_streams.specs.declared.pair.Side.{Side}
 use Rattle.tcp_streams.specs.Pairs.{pair_of, opposite, flow_id}
 use Rattle.tcp_streams.specs.Lives.{lives}
 use Rattle.tcp_waiting.specs.Payload.{blocks_of}
-use Rattle.tcp_connections.specs.Connections.{State, with_segment, flow_at, with_flow, arrived, began, gapped, closed_at, flow_forgotten, index_of, slot_at, gaps_at, ended_by, cleared, goes_before, eldest, with_room, next_slot, made_known, first_number, number_behind, is_first, is_looked_through, looked_through, with_capture_event, is_kept, is_anew, is_reset, syn_at, syn_kept, flow_of_side, fin_taken, unknown_taken, heard, acknowledgement_heard, payload_taken, reset_taken, known_taken, step, is_holding, gaps_from, heaviest, relieved, within_pool}
+use Rattle.tcp_connections.specs.Connections.{State, with_segment, flow_at, with_flow, arrived, began, gapped, closed_at, flow_forgotten, index_of, slot_at, gaps_at, ended_by, cleared, makes_room_before, eldest, with_room, next_slot, made_known, first_number, number_behind, is_first_payload, is_looked_through, looked_through, with_capture_event, is_syn_to_keep, begins_anew, is_reset, syn_at, syn_kept, flow_of_side, fin_taken, unknown_taken, heard, acknowledgement_heard, payload_taken, reset_taken, known_taken, step, is_holding, gaps_from, heaviest, relieved, within_pool}
 
 pub arrived_none : (F : Reader) (w : State) (id : ℕ) (a : Arrival) → flow_at w id ≡ None →
     arrived F w id a ≡ w
@@ -32,7 +32,7 @@ unfolding gapped
 gapped_none F w id e = rw (e, gapped) refl
 
 pub gapped_some : (F : Reader) (w : State) (id : ℕ) (s : FlowState) → flow_at w id ≡ Some s →
-    gapped F w id ≡ with_flow w id (gap F (state s w.held w.events))
+    gapped F w id ≡ with_flow w id (with_gap F (state s w.held w.events))
 unfolding gapped
 gapped_some F w id s e = rw (e, gapped) refl
 
@@ -99,10 +99,11 @@ unfolding heard
 none_waits F w id acknowledged answers none = none_heard F w id _ (flow_at w id) none refl
 
 pub payload_first : (F : Reader) (w : State) (id : ℕ) (s : Segment) → flow_at w id ≡ None →
-    is_first w.ports s ≡ true → payload_taken F w id s ≡ began F w id (first_number s) s.payload
+    is_first_payload w.ports s ≡ true → payload_taken F w id s
+    ≡ began F w id (first_number s) s.payload
 unfolding payload_taken
 payload_first F w id s e f = rw (e, payload_taken)
-    (cond-true (is_first w.ports s) (began F w id (first_number s) s.payload)
+    (cond-true (is_first_payload w.ports s) (began F w id (first_number s) s.payload)
     (looked_through w s) f)
 
 pub looked_none : (w : State) (s : Segment) → is_looked_through w.ports s ≡ false →
@@ -118,10 +119,10 @@ looked_passes w s e =
     cond-true (is_looked_through w.ports s) (with_capture_event w (Passes s.payload)) w e
 
 pub payload_nothing : (F : Reader) (w : State) (id : ℕ) (s : Segment) → flow_at w id ≡ None →
-    is_first w.ports s ≡ false → payload_taken F w id s ≡ looked_through w s
+    is_first_payload w.ports s ≡ false → payload_taken F w id s ≡ looked_through w s
 unfolding payload_taken
 payload_nothing F w id s e f = rw (e, payload_taken)
-    (cond-false (is_first w.ports s) (began F w id (first_number s) s.payload)
+    (cond-false (is_first_payload w.ports s) (began F w id (first_number s) s.payload)
     (looked_through w s) f)
 
 pub payload_reset : (F : Reader) (w : State) (id : ℕ) (s : Segment) (f : FlowState) →
@@ -163,20 +164,20 @@ unfolding reset_taken
 a_reset F w index side s e =
     cond-true (is_reset (flow_of_side w index side) s) (ended_by F w index side Reset) w e
 
-pub unknown_nothing : (F : Reader) (w : State) (s : Segment) → is_first w.ports s ≡ false →
+pub unknown_nothing : (F : Reader) (w : State) (s : Segment) → is_first_payload w.ports s ≡ false →
     unknown_taken F w s ≡ looked_through w s
 unfolding unknown_taken
-unknown_nothing F w s e = cond-false (is_first w.ports s)
+unknown_nothing F w s e = cond-false (is_first_payload w.ports s)
     (fin_taken F (began F (made_known (with_room F w) (pair_of s.flow).0)
     (flow_id (next_slot (with_room F w).free) (pair_of s.flow).1) (first_number s) s.payload)
     (flow_id (next_slot (with_room F w).free) (pair_of s.flow).1) s) (looked_through w s) e
 
-pub unknown_first : (F : Reader) (w : State) (s : Segment) → is_first w.ports s ≡ true
+pub unknown_first : (F : Reader) (w : State) (s : Segment) → is_first_payload w.ports s ≡ true
     → unknown_taken F w s ≡ fin_taken F (began F (made_known (with_room F w) (pair_of s.flow).0)
     (flow_id (next_slot (with_room F w).free) (pair_of s.flow).1) (first_number s) s.payload)
     (flow_id (next_slot (with_room F w).free) (pair_of s.flow).1) s
 unfolding unknown_taken
-unknown_first F w s e = cond-true (is_first w.ports s)
+unknown_first F w s e = cond-true (is_first_payload w.ports s)
     (fin_taken F (began F (made_known (with_room F w) (pair_of s.flow).0)
     (flow_id (next_slot (with_room F w).free) (pair_of s.flow).1) (first_number s) s.payload)
     (flow_id (next_slot (with_room F w).free) (pair_of s.flow).1) s) (looked_through w s) e
@@ -200,7 +201,7 @@ step_unknown F w s e = rw (e, step) refl
 
 pub step_kept : (F : Reader) (w : State) (s : Segment) (index : ℕ) →
     index_of (pair_of s.flow).0 w.known ≡ Some index →
-    is_kept (flow_of_side w index (pair_of s.flow).1) s ≡ true
+    is_syn_to_keep (flow_of_side w index (pair_of s.flow).1) s ≡ true
     → step F w s ≡ syn_kept (record w { segments = w.segments + 1 }) (slot_at w index)
     (flow_id (slot_at w index) (pair_of s.flow).1) s
 unfolding step
@@ -208,15 +209,15 @@ step_kept F w s index e a =
     let v : State = record w { segments = w.segments + 1 } in
     let side : Side = (pair_of s.flow).1 in
     let id : ℕ = flow_id (slot_at v index) side in
-    rw (e, step) (cond-true (is_kept (flow_of_side v index side) s)
+    rw (e, step) (cond-true (is_syn_to_keep (flow_of_side v index side) s)
     (syn_kept v (slot_at v index) id s)
-    (cond (is_anew (syn_at v (slot_at v index)) id s)
+    (cond (begins_anew (syn_at v (slot_at v index)) id s)
     (unknown_taken F (ended_by F v index side Syn) s) (known_taken F v index s)) a)
 
 pub step_anew : (F : Reader) (w : State) (s : Segment) (index : ℕ) →
     index_of (pair_of s.flow).0 w.known ≡ Some index →
-    is_kept (flow_of_side w index (pair_of s.flow).1) s ≡ false →
-    is_anew (syn_at w (slot_at w index)) (flow_id (slot_at w index) (pair_of s.flow).1) s ≡ true
+    is_syn_to_keep (flow_of_side w index (pair_of s.flow).1) s ≡ false →
+    begins_anew (syn_at w (slot_at w index)) (flow_id (slot_at w index) (pair_of s.flow).1) s ≡ true
     → step F w s ≡ unknown_taken F (ended_by F (record w { segments = w.segments + 1 }) index
     (pair_of s.flow).1 Syn) s
 unfolding step
@@ -225,15 +226,16 @@ step_anew F w s index e k a =
     let side : Side = (pair_of s.flow).1 in
     let id : ℕ = flow_id (slot_at v index) side in
     let there : State = unknown_taken F (ended_by F v index side Syn) s in
-    rw (e, step) (cond-false (is_kept (flow_of_side v index side) s)
+    rw (e, step) (cond-false (is_syn_to_keep (flow_of_side v index side) s)
     (syn_kept v (slot_at v index) id s)
-    (cond (is_anew (syn_at v (slot_at v index)) id s) there (known_taken F v index s)) k
-    ∙ cond-true (is_anew (syn_at v (slot_at v index)) id s) there (known_taken F v index s) a)
+    (cond (begins_anew (syn_at v (slot_at v index)) id s) there (known_taken F v index s)) k
+    ∙ cond-true (begins_anew (syn_at v (slot_at v index)) id s) there (known_taken F v index s) a)
 
 pub step_known : (F : Reader) (w : State) (s : Segment) (index : ℕ) →
     index_of (pair_of s.flow).0 w.known ≡ Some index →
-    is_kept (flow_of_side w index (pair_of s.flow).1) s ≡ false →
-    is_anew (syn_at w (slot_at w index)) (flow_id (slot_at w index) (pair_of s.flow).1) s ≡ false
+    is_syn_to_keep (flow_of_side w index (pair_of s.flow).1) s ≡ false →
+    begins_anew (syn_at w (slot_at w index)) (flow_id (slot_at w index) (pair_of s.flow).1) s
+    ≡ false
     → step F w s ≡ known_taken F (record w { segments = w.segments + 1 }) index s
 unfolding step
 step_known F w s index e k a =
@@ -241,10 +243,10 @@ step_known F w s index e k a =
     let side : Side = (pair_of s.flow).1 in
     let id : ℕ = flow_id (slot_at v index) side in
     let there : State = unknown_taken F (ended_by F v index side Syn) s in
-    rw (e, step) (cond-false (is_kept (flow_of_side v index side) s)
+    rw (e, step) (cond-false (is_syn_to_keep (flow_of_side v index side) s)
     (syn_kept v (slot_at v index) id s)
-    (cond (is_anew (syn_at v (slot_at v index)) id s) there (known_taken F v index s)) k
-    ∙ cond-false (is_anew (syn_at v (slot_at v index)) id s) there (known_taken F v index s) a)
+    (cond (begins_anew (syn_at v (slot_at v index)) id s) there (known_taken F v index s)) k
+    ∙ cond-false (begins_anew (syn_at v (slot_at v index)) id s) there (known_taken F v index s) a)
 
 -- what a segment of a known connection does, step by step
 pub known_is : (F : Reader) (w : State) (index : ℕ) (s : Segment) (slot : ℕ) (side : Side)
@@ -355,7 +357,8 @@ gaps_next F (suc count) rank w z l h =
 -- ---- Which connection makes room.
 
 pub eldest_more : (w : State) (n : ℕ) → eldest w (n + 1)
-    ≡ cond (goes_before w n (eldest w n)) n (eldest w n)
+    ≡ cond (makes_room_before w n (eldest w n)) n (eldest w n)
 unfolding eldest
-eldest_more w n = let more : eldest w (suc n) ≡ cond (goes_before w n (eldest w n)) n (eldest w n) =
+eldest_more w n = let more : eldest w (suc n)
+    ≡ cond (makes_room_before w n (eldest w n)) n (eldest w n) =
     refl in ap (eldest w) (add-one n) ∙ more

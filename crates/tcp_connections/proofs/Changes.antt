@@ -7,12 +7,12 @@ use Rattle.tcp_waiting.specs.Numbers.{onward}
 use Rattle.tcp_flow.specs.Flow.{Event, Opens}
 use Rattle.tcp_streams.specs.declared.pair.EndpointPair.{EndpointPair}
 use Rattle.tcp_streams.specs.declared.pair.Side.TheVariants.{FromLesser, FromGreater}
-use Rattle.tcp_streams.specs.Lives.{lives, behind}
+use Rattle.tcp_streams.specs.Lives.{lives, lives_behind}
 use Rattle.tcp_streams.proofs.Order.{lives_more}
 use Rattle.tcp_streams.specs.Pairs.{flow_id, flow_from}
 use Rattle.tcp_connections.specs.declared.connections.Connections.{Connections}
 use Rattle.tcp_connections.specs.declared.syns.KeptSyn.{KeptSyn}
-use Rattle.tcp_connections.specs.Connections.{State, index_of, index_among, next_slot, rest_of_slots, made_known, syn_kept, with_segment}
+use Rattle.tcp_connections.specs.Connections.{State, index_of, insertion_index, next_slot, rest_of_slots, made_known, syn_kept, with_segment}
 use Rattle.tcp_connections.specs.State.{AreRanked, IsSound, IsState, state_of, times}
 use Rattle.tcp_connections.proofs.Before.{still_ranked}
 use Rattle.tcp_connections.proofs.Sound.{sound_seen, known_sound}
@@ -83,17 +83,18 @@ counted O live c c' w h same free table givers =
     }
 
 -- no segment of the flows of a slot has come
-abbrev pub came_none : List Bool → ℕ → List Bool
-came_none came slot =
+abbrev pub with_none_come : (came : List Bool) (slot : ℕ) → List Bool
+with_none_come came slot =
     set (set came (flow_id slot FromLesser) false) (flow_id slot FromGreater) false
 
-abbrev pub opened : ℕ → EndpointPair → List Event → List Event
-opened slot p events = (events ++ Opens (flow_id slot FromLesser) (flow_from p FromLesser) ∷ [])
+abbrev pub with_both_opened : (slot : ℕ) (pair : EndpointPair) (events : List Event) → List Event
+with_both_opened slot p events = (events ++ Opens (flow_id slot FromLesser) (flow_from p FromLesser)
+    ∷ [])
     ++ Opens (flow_id slot FromGreater) (flow_from p FromGreater) ∷ []
 
 opened_lives : (slot : ℕ) (p : EndpointPair) (events : List Event) →
-    lives (opened slot p events) ≡ lives events
-unfolding behind
+    lives (with_both_opened slot p events) ≡ lives events
+unfolding lives_behind
 opened_lives slot p events =
     let lesser : Event = Opens (flow_id slot FromLesser) (flow_from p FromLesser) in
     let greater : Event = Opens (flow_id slot FromGreater) (flow_from p FromGreater) in
@@ -102,57 +103,57 @@ opened_lives slot p events =
 -- what the code made is what the definition makes
 made_is : (w : State) (p : EndpointPair) (rest : List ℕ) (slot : ℕ) → w.free ≡ rest ++ slot ∷ []
     → (record w {
-      known = insert w.known (index_among p w.known) p;
+      known = insert w.known (insertion_index p w.known) p;
       slots =
-          insert w.slots (index_among p w.known) slot;
+          insert w.slots (insertion_index p w.known) slot;
       free = rest;
       lasts =
           set w.lasts slot w.segments;
       syns = set w.syns slot None;
-      came = came_none w.came slot;
-      events = opened slot p w.events;
+      came = with_none_come w.came slot;
+      events = with_both_opened slot p w.events;
     }) ≡ made_known w p
 unfolding made_known
 made_is w p rest slot e =
     let next : next_slot w.free ≡ slot = ap next_slot e ∙ next_is rest slot in
     let others : rest_of_slots w.free ≡ rest = ap rest_of_slots e ∙ rest_is rest slot in
     ap (λ (r : ℕ). record w {
-      known = insert w.known (index_among p w.known) p;
+      known = insert w.known (insertion_index p w.known) p;
       slots =
-          insert w.slots (index_among p w.known) r;
+          insert w.slots (insertion_index p w.known) r;
       free = rest;
       lasts = set w.lasts r w.segments;
       syns = set w.syns r None;
-      came = came_none w.came r;
-      events = opened r p w.events;
+      came = with_none_come w.came r;
+      events = with_both_opened r p w.events;
     }) (sym next)
     ∙ ap (λ (rs : List ℕ). record w {
-      known = insert w.known (index_among p w.known) p;
+      known = insert w.known (insertion_index p w.known) p;
       slots =
-          insert w.slots (index_among p w.known) (next_slot w.free);
+          insert w.slots (insertion_index p w.known) (next_slot w.free);
       free = rs;
       lasts =
           set w.lasts (next_slot w.free) w.segments;
       syns = set w.syns (next_slot w.free) None;
-      came = came_none w.came (next_slot w.free);
-      events = opened (next_slot w.free) p w.events;
+      came = with_none_come w.came (next_slot w.free);
+      events = with_both_opened (next_slot w.free) p w.events;
     })
     (sym others)
 
 pub made : (O O' : List Event → Type 0) (live live' : List ℕ) (c c' : Connections) (w : State)
     (p : EndpointPair) (rest : List ℕ) (slot : ℕ) → IsState O live c w
-    → O' (opened slot p w.events) → live' ≡ lives (opened slot p w.events)
+    → O' (with_both_opened slot p w.events) → live' ≡ lives (with_both_opened slot p w.events)
     → c.free.free.items ≡ rest ++ slot ∷ [] → index_of p c.table.keys ≡ None
     → ((e : List Event) → state_of c' e ≡ record (state_of c e) {
       known =
-          insert c.table.keys (index_among p c.table.keys) p;
+          insert c.table.keys (insertion_index p c.table.keys) p;
       slots =
-          insert c.table.slots (index_among p c.table.keys) slot;
+          insert c.table.slots (insertion_index p c.table.keys) slot;
       free = rest;
       lasts =
           set c.flows.stamps.last.items slot c.segments;
       syns = set c.syns.kept.items slot None;
-      came = came_none c.flows.came.ids.items slot;
+      came = with_none_come c.flows.came.ids.items slot;
     })
     → c'.free.most ≡ c.free.most → c'.table.most ≡ c.table.most → c'.givers ≡ c.givers
     → IsState O' live' c' (made_known w p)
@@ -167,22 +168,22 @@ made O O' live live' c c' w p rest slot h observed living free new state most ta
       observed = observed;
       live = living;
       same =
-          state (opened slot p w.events)
+          state (with_both_opened slot p w.events)
           ∙ ap (λ (u : State). record u {
-            known = insert u.known (index_among p u.known) p;
+            known = insert u.known (insertion_index p u.known) p;
             slots =
-                insert u.slots (index_among p u.known) slot;
+                insert u.slots (insertion_index p u.known) slot;
             free = rest;
             lasts =
                 set u.lasts slot u.segments;
             syns = set u.syns slot None;
-            came = came_none u.came slot;
-            events = opened slot p w.events;
+            came = with_none_come u.came slot;
+            events = with_both_opened slot p w.events;
           }) h.same;
       told = λ id e. subst (λ (xs : List ℕ). 0 < times id xs) (sym (opened_lives slot p w.events))
           (h.told id e);
       sound = known_sound w p rest slot (set w.lasts slot w.segments) (set w.syns slot None)
-          (came_none w.came slot) (opened slot p w.events) h.sound had unknown long;
+          (with_none_come w.came slot) (with_both_opened slot p w.events) h.sound had unknown long;
       blocks = h.blocks;
       free = most ∙ h.free ∙ sym long;
       room = table ∙ h.room ∙ sym long;
@@ -193,13 +194,13 @@ made O O' live live' c c' w p rest slot h observed living free new state most ta
 
 -- ---- Which connections are known.
 
-abbrev pub others_of : Connections → List Event → State
-others_of c es =
+abbrev pub state_without_lists : (connections : Connections) (events : List Event) → State
+state_without_lists c es =
     record (state_of c es) { known = []; slots = []; free = []; lasts = []; syns = []; came = [] }
 
 -- only the known connections, and when they were seen, have changed
 pub entered : (c c' : Connections) (es : List Event) →
-    ((e : List Event) → others_of c' e ≡ others_of c e) →
+    ((e : List Event) → state_without_lists c' e ≡ state_without_lists c e) →
     (known : List EndpointPair) (slots free lasts : List ℕ) (syns : List (Option KeptSyn))
     (came : List Bool) → c'.table.keys ≡ known → c'.table.slots ≡ slots
     → c'.free.free.items ≡ free →

@@ -7,13 +7,13 @@ use Rattle.tcp_flow.specs.declared.flow.CloseCause.{CloseCause}
 use Rattle.tcp_flow.specs.declared.flow.CloseCause.TheVariants.{Gap, End}
 use Rattle.tcp_flow.specs.declared.flow.FlowState.{FlowState}
 use Rattle.tcp_flow.specs.declared.flow.ListenerError.{ListenerError}
-use Rattle.tcp_flow.specs.Flow.{Flow, Event, Closes, closed, stopped, out_of_step, with_event, lives as has_stream}
+use Rattle.tcp_flow.specs.Flow.{Flow, Event, Closes, closed, stream_closed, out_of_step, with_event, lives as has_stream}
 use Rattle.tcp_flow.specs.State.{state}
 use Rattle.tcp_flow.proofs.Room.{closed_dead}
-use Rattle.tcp_streams.specs.Lives.{lives, behind, ended}
+use Rattle.tcp_streams.specs.Lives.{lives, lives_behind, with_closed}
 use Rattle.tcp_streams.proofs.Order.{lives_more}
 use Rattle.tcp_connections.specs.declared.connections.Connections.{Connections}
-use Rattle.tcp_connections.specs.Connections.{State, flow_at, flow_state, live_of, live_at, with_flow, closed_at, end_cause, all_closed}
+use Rattle.tcp_connections.specs.Connections.{State, flow_at, flow_state, stream_start_of, stream_start_at, with_flow, closed_at, end_cause, all_closed}
 use Rattle.tcp_connections.specs.State.{IsAt, times}
 use Rattle.tcp_connections.proofs.Cases.{closed_none, closed_some}
 use Rattle.tcp_connections.proofs.Sound.{some_within}
@@ -79,20 +79,20 @@ module _ (Q : Option FlowState → Type 0) (none : Q None)
 
 -- a stream that closes at the end keeps its place in the order
 keeps_index : (w : State) (id : ℕ) (s : FlowState) (cause : CloseCause) → flow_at w id ≡ Some s →
-    ((xs : List ℕ) → ended s.id cause xs ≡ xs)
+    ((xs : List ℕ) → with_closed s.id cause xs ≡ xs)
     → lives (closed (state s w.held w.events) cause).events ≡ lives w.events
-unfolding closed with_event behind
+unfolding closed with_event lives_behind
 keeps_index w id s cause e keeps =
     let f : Flow = state s w.held w.events in
     elim (cases_Bool (has_stream s.live s.waits)) [
       | inl y ↦ ap (λ (g : Flow). lives g.events)
-          (cond-true (has_stream s.live s.waits) (stopped f f.next cause) (out_of_step f) y)
+          (cond-true (has_stream s.live s.waits) (stream_closed f f.next cause) (out_of_step f) y)
           ∙ lives_more [] w.events (Closes s.id cause) ∙ keeps (lives w.events)
       | inr z ↦ ap (λ (g : Flow). lives g.events)
-          (cond-false (has_stream s.live s.waits) (stopped f f.next cause) (out_of_step f) z)
+          (cond-false (has_stream s.live s.waits) (stream_closed f f.next cause) (out_of_step f) z)
     ]
 
-end_keeps : (b : Bool) (id : ℕ) (xs : List ℕ) → ended id (cond b Gap End) xs ≡ xs
+end_keeps : (b : Bool) (id : ℕ) (xs : List ℕ) → with_closed id (cond b Gap End) xs ≡ xs
 end_keeps true id xs = refl
 end_keeps false id xs = refl
 
@@ -121,15 +121,15 @@ closes_next xs i w l =
 -- the code is at the end of a capture
 pub none_at_end : {X : Type 0} (r : Result X ListenerError) (O : List Event → Type 0)
     (live : List ℕ) (c : Connections) (w : State)
-    → ((id : ℕ) → is_some (live_at w id) ≡ true → 0 < times id (lives w.events))
+    → ((id : ℕ) → is_some (stream_start_at w id) ≡ true → 0 < times id (lives w.events))
     → OnOk r (IsAt O live c (all_closed (lives w.events) w))
-    → OnOk r ((id : ℕ) → live_of (get_or c.flows.states.items id None) ≡ None)
-unfolding live_of
+    → OnOk r ((id : ℕ) → stream_start_of (get_or c.flows.states.items id None) ≡ None)
+unfolding stream_start_of
 none_at_end (Ok x) O live c w told h = λ id.
-    ap (λ (v : State). live_at v id) h.same
-    ∙ all_quiet (λ o. live_of o ≡ None) refl (λ s e. e) (lives w.events) w id
-    (elim (cases_Bool (is_some (live_at w id))) [
+    ap (λ (v : State). stream_start_at v id) h.same
+    ∙ all_quiet (λ o. stream_start_of o ≡ None) refl (λ s e. e) (lives w.events) w id
+    (elim (cases_Bool (is_some (stream_start_at w id))) [
       | inl y ↦ inl (told id y)
-      | inr z ↦ inr (none_is (live_at w id) z)
+      | inr z ↦ inr (none_is (stream_start_at w id) z)
     ])
 none_at_end (Err x) O live c w told h = tt

@@ -9,7 +9,7 @@ use Rattle.tcp_streams.specs.declared.pair.EndpointPair.{EndpointPair}
 use Rattle.tcp_streams.specs.declared.pair.Side.{Side}
 use Rattle.tcp_streams.specs.Lives.{lives, elder_side}
 use Rattle.tcp_streams.specs.Pairs.{pair_of, opposite, flow_id}
-use Rattle.tcp_connections.specs.Connections.{State, with_segment, slot_at, flow_forgotten, forgotten, shown, shown_by_age, ended_by, eldest, with_room, next_slot, made_known, index_of, flow_of_side, syn_at, syn_kept, is_kept, is_anew, is_reset, is_first, looked_through, first_number, began, fin_taken, acknowledgement_heard, payload_taken, reset_taken, unknown_taken, known_taken, step}
+use Rattle.tcp_connections.specs.Connections.{State, with_segment, slot_at, flow_forgotten, forgotten, shown, shown_by_age, ended_by, eldest, with_room, next_slot, made_known, index_of, flow_of_side, syn_at, syn_kept, is_syn_to_keep, begins_anew, is_reset, is_first_payload, looked_through, first_number, began, fin_taken, acknowledgement_heard, payload_taken, reset_taken, unknown_taken, known_taken, step}
 use Rattle.tcp_connections.proofs.Cases.{room_there, room_made, step_unknown, step_kept, step_anew, step_known}
 use Rattle.tcp_connections.proofs.Forgotten.{forgot_either}
 use Rattle.tcp_connections.proofs.Kept.{began_kept, looked_kept, heard_kept, acknowledgement_kept, payload_kept, fin_kept}
@@ -63,7 +63,7 @@ unknown_segments F w s =
     let m : State = made_known v (pair_of s.flow).0 in
     let id : ℕ = flow_id (next_slot v.free) (pair_of s.flow).1 in
     let b : State = began F m id (first_number s) s.payload in
-    either w.segments (is_first w.ports s) (fin_taken F b id s) (looked_through w s)
+    either w.segments (is_first_payload w.ports s) (fin_taken F b id s) (looked_through w s)
     ((fin_kept F b id s).segments ∙ (began_kept F m id (first_number s) s.payload).segments
     ∙ made_segments v (pair_of s.flow).0 ∙ room_segments F w) (looked_kept w s).segments
 
@@ -106,11 +106,11 @@ step_segments F w s = by (index_of (pair_of s.flow).0 w.known) refl
         let v : State = record w { segments = w.segments + 1 } in
         let side : Side = (pair_of s.flow).1 in
         let id : ℕ = flow_id (slot_at w index) side in
-        elim (cases_Bool (is_kept (flow_of_side w index side) s)) [
+        elim (cases_Bool (is_syn_to_keep (flow_of_side w index side) s)) [
           | inl k ↦ ap (λ (u : State). u.segments) (step_kept F w s index e k)
               ∙ kept_segments v (slot_at w index) id s
           | inr k ↦
-              elim (cases_Bool (is_anew (syn_at w (slot_at w index)) id s)) [
+              elim (cases_Bool (begins_anew (syn_at w (slot_at w index)) id s)) [
                 | inl a ↦ ap (λ (u : State). u.segments) (step_anew F w s index e k a)
                     ∙ unknown_segments F (ended_by F v index side Syn) s
                     ∙ shown_segments F v index (slot_at v index) side side Syn

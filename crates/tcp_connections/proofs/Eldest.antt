@@ -2,7 +2,7 @@
 use Rattle.std.proofs.Common.{◌≡◌, ◌⊎◌, ℕ, zero, suc, ◌<◌, ◌≤◌, Bool, true, false, cond, nat_eq, nat_lt, ◌&&◌, ◌||◌, length, refl, sym, ◌∙◌, subst, arith, inl, inr, true≢false}
 use Rattle.std.proofs.lemmas.Bool.{cases_Bool, cases_eq, cases_lt, cond-true, cond-false, lt-ltb, ltb-true, eqb-true, eq-eqb, or_cases, or_left, or_right, and_from, and_parts}
 use Rattle.tcp_flow.specs.Flow.{Reader}
-use Rattle.tcp_connections.specs.Connections.{State, slot_at, is_live, is_both, class_of, goes_before, eldest}
+use Rattle.tcp_connections.specs.Connections.{State, slot_at, is_live, both_have_come, room_class_of, makes_room_before, eldest}
 use Rattle.tcp_connections.specs.Forgetting.{last_at, IsEldest, MakesRoom}
 use Rattle.tcp_connections.specs.Ranks.{IsBeforeAll}
 use Rattle.tcp_connections.specs.State.{IsSound}
@@ -12,7 +12,7 @@ use Rattle.tcp_connections.proofs.Times.{times_both}
 use Rattle.tcp_connections.proofs.Unknown.{eldest_within}
 
 -- whether one goes before another, by their classes and by when they were seen
-abbrev before : (a b m n : ℕ) → Bool
+abbrev before : (class_one class_other seen_one seen_other : ℕ) → Bool
 before a b m n = nat_lt a b || nat_eq a b && nat_lt m n
 
 before_is : (a b m n : ℕ) → before a b m n ≡ true → (a < b) ⊎ ((a ≡ b) × (m < n))
@@ -54,29 +54,30 @@ not_before_itself a n = not_true (before a a n n) (λ h. by (before_is a a n n h
     by (inr (e, l)) = omega (arith, l)
 
 -- none of those that were looked at goes before the eldest
-none_before : (w : State) (n k : ℕ) → k < n → goes_before w k (eldest w n) ≡ false
+none_before : (w : State) (n k : ℕ) → k < n → makes_room_before w k (eldest w n) ≡ false
 unfolding eldest
 none_before w zero k l = absurd (omega (arith, l))
 none_before w (suc n) k l =
     let best : ℕ = eldest w n in
-    elim (cases_Bool (goes_before w n best)) [
+    elim (cases_Bool (makes_room_before w n best)) [
       | inl e ↦
-          subst (λ (b : ℕ). goes_before w k b ≡ false)
-          (sym (cond-true (goes_before w n best) n best e))
+          subst (λ (b : ℕ). makes_room_before w k b ≡ false)
+          (sym (cond-true (makes_room_before w n best) n best e))
           (elim (cases_lt k n) [
-            | inl less ↦ not_true (goes_before w k n) (λ o. true≢false
-                (sym (before_both (class_of w (slot_at w k)) (class_of w (slot_at w n))
-                (class_of w (slot_at w best)) (last_at w k) (last_at w n) (last_at w best) o e)
+            | inl less ↦ not_true (makes_room_before w k n) (λ o. true≢false
+                (sym (before_both (room_class_of w (slot_at w k)) (room_class_of w (slot_at w n))
+                (room_class_of w (slot_at w best)) (last_at w k) (last_at w n) (last_at w best) o e)
                 ∙ none_before w n k less))
-            | inr more ↦ subst (λ (i : ℕ). goes_before w i n ≡ false) (omega (arith, l, more))
-                (not_before_itself (class_of w (slot_at w n)) (last_at w n))
+            | inr more ↦ subst (λ (i : ℕ). makes_room_before w i n ≡ false) (omega (arith, l, more))
+                (not_before_itself (room_class_of w (slot_at w n)) (last_at w n))
           ])
       | inr e ↦
-          subst (λ (b : ℕ). goes_before w k b ≡ false)
-          (sym (cond-false (goes_before w n best) n best e))
+          subst (λ (b : ℕ). makes_room_before w k b ≡ false)
+          (sym (cond-false (makes_room_before w n best) n best e))
           (elim (cases_lt k n) [
             | inl less ↦ none_before w n k less
-            | inr more ↦ subst (λ (i : ℕ). goes_before w i best ≡ false) (omega (arith, l, more)) e
+            | inr more ↦ subst (λ (i : ℕ). makes_room_before w i best ≡ false)
+                (omega (arith, l, more)) e
           ])
     ]
 
@@ -98,7 +99,7 @@ only_eldest w index h l first =
     ]
 
 -- a class, from whether a stream is live and whether segments of both flows came
-abbrev class : Bool → Bool → ℕ
+abbrev class : (live both : Bool) → ℕ
 class live both = cond live (cond both 2 1) 0
 
 some_class : (b : Bool) → 0 < class true b
@@ -133,12 +134,14 @@ eldest_is_eldest w some =
     record {
       within = eldest_within w (length w.known) some;
       idle = λ live other l. alive_too (is_live w (slot_at w other)) (is_live w own)
-          (is_both w (slot_at w other)) (is_both w own) (last_at w other) (last_at w index)
+          (both_have_come w (slot_at w other)) (both_have_come w own) (last_at w other)
+          (last_at w index)
           (none_before w (length w.known) other l) live;
       one_way = λ live both other l. both_too (is_live w (slot_at w other)) (is_live w own)
-          (is_both w (slot_at w other)) (is_both w own) (last_at w other) (last_at w index)
+          (both_have_come w (slot_at w other)) (both_have_come w own) (last_at w other)
+          (last_at w index)
           (none_before w (length w.known) other l) live both;
-      oldest = λ other l alike. seen_later (class_of w (slot_at w other)) (class_of w own)
+      oldest = λ other l alike. seen_later (room_class_of w (slot_at w other)) (room_class_of w own)
           (last_at w other) (last_at w index) (none_before w (length w.known) other l) alike;
     }
 

@@ -8,18 +8,18 @@ use Rattle.tcp_flow.specs.declared.flow.CloseCause.{CloseCause}
 use Rattle.tcp_flow.specs.declared.flow.CloseCause.TheVariants.{Fin, Reset, Syn, Fault, Gap, Room}
 use Rattle.tcp_flow.specs.declared.flow.CloseCause.TheVariants as causes
 use Rattle.tcp_flow.specs.declared.flow.FlowState.{FlowState}
-use Rattle.tcp_waiting.specs.Payload.{Payload, first, count_of}
-use Rattle.tcp_flow.specs.Flow.{Flow, OfCapture, Reader, left, with_event, delivered, looked_through as flow_looked, tail_before, told_from, taken, at, closed, gap, first_of, held_by_others, CaptureEvent, Passes, stopped, checked, started, resumed}
+use Rattle.tcp_waiting.specs.Payload.{Payload, oldest_index, count_of}
+use Rattle.tcp_flow.specs.Flow.{Flow, OfCapture, Reader, without_old_octets, with_event, delivered, looked_through as flow_looked, tail_continued_by, with_arrival_told, taken, at, closed, with_gap, oldest_held, held_by_others, CaptureEvent, Passes, stream_closed, closed_at_fault, started, begun_if_awaited}
 use Rattle.tcp_flow.specs.State.{state}
 use Rattle.tcp_flow.specs.declared.tail.Tail.{Tail}
 use Rattle.tcp_flow.proofs.Tails.{looked_by}
-use Rattle.tcp_flow.proofs.Preserving.{Keeps, gap_keeps}
+use Rattle.tcp_flow.proofs.Preserving.{StepsKeep, gap_keeps}
 use Rattle.tcp_flow.proofs.Room.{gap_fewer}
 use Rattle.tcp_flow.proofs.Others.{gap_others, others_all}
-use Rattle.tcp_streams.specs.Lives.{lives, behind, begun, ended, without, most_ids}
+use Rattle.tcp_streams.specs.Lives.{lives, lives_behind, with_begun, with_closed, without, most_ids}
 use Rattle.tcp_streams.proofs.Ids.{none_left}
 use Rattle.tcp_streams.proofs.Order.{lives_more}
-use Rattle.tcp_connections.specs.Connections.{State, flow_at, live_of, live_at, with_flow, gapped, is_holding}
+use Rattle.tcp_connections.specs.Connections.{State, flow_at, stream_start_of, stream_start_at, with_flow, gapped, is_holding}
 use Rattle.tcp_connections.specs.State.{IsSound, times}
 use Rattle.tcp_connections.proofs.Cases.{gapped_some}
 use Rattle.tcp_connections.proofs.Living.{lives_ids}
@@ -92,12 +92,13 @@ without_last n (x ∷ xs) h = search (arith, cond-false, nat_eq, not_own, withou
 -- ---- A gap in a flow: the flow stays at its place in the order, becomes the last, or goes.
 
 -- a flow stayed at its place, became the last, or went
-abbrev StandsSo : ℕ → List ℕ → List ℕ → Type 0
-StandsSo id all xs = (xs ≡ all) ⊎ ((xs ≡ without id all) ⊎ (xs ≡ without id all ++ id ∷ []))
+abbrev StayedRequeuedOrGone : (id : ℕ) (before after : List ℕ) → Type 0
+StayedRequeuedOrGone id all xs = (xs ≡ all)
+    ⊎ ((xs ≡ without id all) ⊎ (xs ≡ without id all ++ id ∷ []))
 
-record IsTail (id : ℕ) (all : List ℕ) (g : Flow) : Type 0 where
-  pub same : g.id ≡ id
-  pub tail : StandsSo id all (lives g.events)
+record FlowStayedRequeuedOrGone (id : ℕ) (before : List ℕ) (flow : Flow) : Type 0 where
+  pub same : flow.id ≡ id
+  pub tail : StayedRequeuedOrGone id before (lives flow.events)
 
 -- the id isn't among the others
 record IsOther (id : ℕ) (others : List ℕ) : Type 0 where
@@ -109,14 +110,15 @@ either P true x y p q = p
 either P false x y p q = q
 
 -- the flow goes
-gone_so : (id : ℕ) (all xs : List ℕ) → IsOther id (without id all) → StandsSo id all xs →
-    StandsSo id all (without id xs)
+gone_so : (id : ℕ) (all xs : List ℕ) → IsOther id (without id all) → StayedRequeuedOrGone id all xs
+    →
+    StayedRequeuedOrGone id all (without id xs)
 gone_so id all xs o (inl e) = inr (inl (ap (without id) e))
 gone_so id all xs o (inr (inl e)) = search (arith, without_none)
 gone_so id all xs o (inr (inr e)) = search (arith, without_last)
 
 ended_so : (id : ℕ) (all xs : List ℕ) (cause : CloseCause) → IsOther id (without id all) →
-    StandsSo id all xs → StandsSo id all (ended id cause xs)
+    StayedRequeuedOrGone id all xs → StayedRequeuedOrGone id all (with_closed id cause xs)
 ended_so id all xs Gap o h = h
 ended_so id all xs causes.End o h = h
 ended_so id all xs Fin o h = gone_so id all xs o h
@@ -126,105 +128,115 @@ ended_so id all xs Fault o h = gone_so id all xs o h
 ended_so id all xs Room o h = gone_so id all xs o h
 
 closing_tail : (id : ℕ) (all : List ℕ) (g : Flow) (n : ℕ) (cause : CloseCause) →
-    IsOther id (without id all) → IsTail id all g → IsTail id all (stopped g n cause)
-unfolding with_event behind
+    IsOther id (without id all) → FlowStayedRequeuedOrGone id all g →
+    FlowStayedRequeuedOrGone id all (stream_closed g n cause)
+unfolding with_event lives_behind
 closing_tail id all g n cause o t = search (arith, lives_more, ended_so)
 
 closed_tail : (id : ℕ) (all : List ℕ) (g : Flow) (cause : CloseCause) →
-    IsOther id (without id all) → IsTail id all g → IsTail id all (closed g cause)
+    IsOther id (without id all) → FlowStayedRequeuedOrGone id all g →
+    FlowStayedRequeuedOrGone id all (closed g cause)
 unfolding closed
 closed_tail id all g cause o t = search (arith, either, closing_tail)
 
 checked_tail : (id : ℕ) (all : List ℕ) (g : Flow) (r : Option ℕ) → IsOther id (without id all) →
-    IsTail id all g → IsTail id all (checked g r)
-unfolding checked
+    FlowStayedRequeuedOrGone id all g → FlowStayedRequeuedOrGone id all (closed_at_fault g r)
+unfolding closed_at_fault
 checked_tail id all g None o t = t
 checked_tail id all g (Some at) o t = search (arith, closing_tail)
 
-capture_tail : (id : ℕ) (all : List ℕ) (g : Flow) (e : CaptureEvent) → IsTail id all g →
-    IsTail id all (with_event g (OfCapture e))
-unfolding with_event behind
+capture_tail : (id : ℕ) (all : List ℕ) (g : Flow) (e : CaptureEvent) →
+    FlowStayedRequeuedOrGone id all g →
+    FlowStayedRequeuedOrGone id all (with_event g (OfCapture e))
+unfolding with_event lives_behind
 capture_tail id all g e t = search (arith, lives_more)
 
 delivered_tail : (F : Reader) (id : ℕ) (all : List ℕ) (g : Flow) (p : Payload) →
-    IsOther id (without id all) → IsTail id all g → IsTail id all (delivered F g p)
-unfolding delivered with_event behind
+    IsOther id (without id all) → FlowStayedRequeuedOrGone id all g →
+    FlowStayedRequeuedOrGone id all (delivered F g p)
+unfolding delivered with_event lives_behind
 delivered_tail F id all g p o t = search (arith, lives_more, checked_tail)
 
 -- a stream of the flow begins, and the flow becomes the last
-begun_so : (id : ℕ) (all xs : List ℕ) → IsOther id (without id all) → StandsSo id all xs →
-    StandsSo id all (begun id xs)
-unfolding begun
+begun_so : (id : ℕ) (all xs : List ℕ) → IsOther id (without id all) → StayedRequeuedOrGone id all
+    xs →
+    StayedRequeuedOrGone id all (with_begun id xs)
+unfolding with_begun
 begun_so id all xs o h = search (arith, cond-true, nat_lt, lt-ltb, without_none, without_last)
 
 started_tail : (id : ℕ) (all : List ℕ) (g : Flow) (n : ℕ) → IsOther id (without id all) →
-    IsTail id all g → IsTail id all (started g n)
-unfolding with_event behind
+    FlowStayedRequeuedOrGone id all g → FlowStayedRequeuedOrGone id all (started g n)
+unfolding with_event lives_behind
 started_tail id all g n o t = search (arith, lives_more, begun_so)
 
 resumed_tail : (id : ℕ) (all : List ℕ) (g : Flow) → IsOther id (without id all) →
-    IsTail id all g → IsTail id all (resumed g)
+    FlowStayedRequeuedOrGone id all g → FlowStayedRequeuedOrGone id all (begun_if_awaited g)
 resumed_tail id all g o t = search (arith, either, started_tail)
 
 looked_tail : (F : Reader) (id : ℕ) (all : List ℕ) (g : Flow) (q : Payload) (r : Option Tail) →
-    IsOther id (without id all) → IsTail id all g → IsTail id all (flow_looked F g q r)
+    IsOther id (without id all) → FlowStayedRequeuedOrGone id all g →
+    FlowStayedRequeuedOrGone id all (flow_looked F g q r)
 looked_tail F id all g q r o t =
-    looked_by F (IsTail id all) (λ g p t. delivered_tail F id all g p o t)
+    looked_by F (FlowStayedRequeuedOrGone id all) (λ g p t. delivered_tail F id all g p o t)
     (λ g n t. started_tail id all g n o t)
     (λ g u xs t. capture_tail id all (record g { tail = u }) (Passes xs)
     (record { same = t.same; tail = t.tail })) g q r t
 
-from_tail : (id : ℕ) (all : List ℕ) (g : Flow) (p : Payload) → IsTail id all g →
-    IsTail id all (told_from g p)
-unfolding told_from
+from_tail : (id : ℕ) (all : List ℕ) (g : Flow) (p : Payload) → FlowStayedRequeuedOrGone id all g →
+    FlowStayedRequeuedOrGone id all (with_arrival_told g p)
+unfolding with_arrival_told
 from_tail id all g p t = search (arith, capture_tail)
 
 taken_tail : (F : Reader) (id : ℕ) (all : List ℕ) (g : Flow) (p : Payload) →
-    IsOther id (without id all) → IsTail id all g → IsTail id all (taken F g p)
+    IsOther id (without id all) → FlowStayedRequeuedOrGone id all g →
+    FlowStayedRequeuedOrGone id all (taken F g p)
 unfolding taken
 taken_tail F id all g p o t =
-    let q : Payload = left g.next (is_some g.live) p in
-    let h : Flow = told_from g p in
-    let u : IsTail id all h = from_tail id all g p t in
-    let d : Flow = delivered F (resumed h) q in
-    let r : Option Tail = tail_before g.tail q.number q.octets in
+    let q : Payload = without_old_octets g.next (is_some g.live) p in
+    let h : Flow = with_arrival_told g p in
+    let u : FlowStayedRequeuedOrGone id all h = from_tail id all g p t in
+    let d : Flow = delivered F (begun_if_awaited h) q in
+    let r : Option Tail = tail_continued_by g.tail q.number q.octets in
     let b : Flow = flow_looked F h q r in
-    either (IsTail id all) (nat_eq (length q.octets) 0) g (cond (is_some g.live) d b) t
-    (either (IsTail id all) (is_some g.live) d b
-    (delivered_tail F id all (resumed h) q o (resumed_tail id all h o u))
+    either (FlowStayedRequeuedOrGone id all) (nat_eq (length q.octets) 0) g
+    (cond (is_some g.live) d b) t
+    (either (FlowStayedRequeuedOrGone id all) (is_some g.live) d b
+    (delivered_tail F id all (begun_if_awaited h) q o (resumed_tail id all h o u))
     (looked_tail F id all h q r o u))
 
 tail_keeps : (F : Reader) (id : ℕ) (all : List ℕ) → IsOther id (without id all) →
-    Keeps F (IsTail id all)
+    StepsKeep F (FlowStayedRequeuedOrGone id all)
 tail_keeps F id all o =
     record {
       takes = λ f i e d t. taken_tail F id all (record f { held = remove f.held i }) (at f i) o
           (record { same = t.same; tail = t.tail });
       closes = λ f cause t. closed_tail id all f cause o t;
-      waits = λ f count live t. (let c : IsTail id all (closed f Gap) = closed_tail id all f Gap o t
+      waits = λ f count live t. (let c : FlowStayedRequeuedOrGone id all (closed f Gap) =
+          closed_tail id all f Gap o t
           in record { same = c.same; tail = c.tail });
       fins = λ f n t. record { same = t.same; tail = t.tail };
     }
 
 gap_tail : (F : Reader) (id : ℕ) (f : Flow) → id < most_ids → f.id ≡ id →
-    IsTail id (lives f.events) (gap F f)
+    FlowStayedRequeuedOrGone id (lives f.events) (with_gap F f)
 gap_tail F id f l same =
     let o : IsOther id (without id (lives f.events)) = record {
       small = l;
       none = none_left id (lives f.events) (lives_ids f.events).1;
     } in
-    gap_keeps F (IsTail id (lives f.events)) (tail_keeps F id (lives f.events) o) f
+    gap_keeps F (FlowStayedRequeuedOrGone id (lives f.events)) (tail_keeps F id (lives f.events) o)
+    f
     (record { same = same; tail = inl refl })
 
 -- ---- After some gaps, the flows before a rank hold nothing, and the gaps that are left suffice
 -- for the rest.
 
-pub record SoFar (left rank : ℕ) (w : State) : Type 0 where
-  pub reach : rank ≤ length (lives w.events)
-  pub enough : length w.held + length (lives w.events) ≤ left + rank
-  pub before : (r : ℕ) → r < rank → count_of (get_or (lives w.events) r 0) w.held ≡ 0
+pub record HoldNothingBefore (left rank : ℕ) (state : State) : Type 0 where
+  pub reach : rank ≤ length (lives state.events)
+  pub enough : length state.held + length (lives state.events) ≤ left + rank
+  pub before : (r : ℕ) → r < rank → count_of (get_or (lives state.events) r 0) state.held ≡ 0
 
-pub none_held : (id next : ℕ) (ps : List Payload) → is_some (first id next ps) ≡ false →
+pub none_held : (id next : ℕ) (ps : List Payload) → is_some (oldest_index id next ps) ≡ false →
     count_of id ps ≡ 0
 none_held id next ps e = search (arith, others_all, count_gone)
 
@@ -234,13 +246,13 @@ pub idle : (w : State) (id : ℕ) → IsSound w → is_holding w.held (flow_at w
 unfolding is_holding
 idle w id h e = search (arith, none_held)
 
-pub start_so_far : (w : State) → SoFar (length w.held + length (lives w.events)) 0 w
+pub start_so_far : (w : State) → HoldNothingBefore (length w.held + length (lives w.events)) 0 w
 start_so_far w = search (arith)
 
 pub next_so_far : (left rank : ℕ) (w : State) → IsSound w → 0 < left →
     rank < length (lives w.events) → is_holding w.held (flow_at w (get_or (lives w.events) rank 0))
     ≡ false
-    → SoFar left rank w → SoFar (left - 1) (rank + 1) w
+    → HoldNothingBefore left rank w → HoldNothingBefore (left - 1) (rank + 1) w
 next_so_far left rank w h some l e t = search (
   arith,
   cases_Bool,
@@ -255,8 +267,8 @@ next_so_far left rank w h some l e t = search (
 by_gap : (left rank : ℕ) (w : State) (g : Flow) (id : ℕ) → id ≡ get_or (lives w.events) rank 0 →
     0 < left → rank < length (lives w.events)
     → length g.held < length w.held → held_by_others id g.held ≡ held_by_others id w.held →
-    IsTail id (lives w.events) g
-    → SoFar left rank w → SoFar (left - 1) rank (with_flow w id g)
+    FlowStayedRequeuedOrGone id (lives w.events) g
+    → HoldNothingBefore left rank w → HoldNothingBefore (left - 1) rank (with_flow w id g)
 unfolding with_flow
 by_gap left rank w g id same some l fewer others t so =
     let all : List ℕ = lives w.events in
@@ -307,8 +319,8 @@ by_gap left rank w g id same some l fewer others t so =
 
 -- a flow that holds something is in step
 pub holds_live : (w : State) (id : ℕ) (s : FlowState) → IsSound w → flow_at w id ≡ Some s →
-    is_some (first s.id s.next w.held) ≡ true → is_some s.live ≡ true
-unfolding first_of
+    is_some (oldest_index s.id s.next w.held) ≡ true → is_some s.live ≡ true
+unfolding oldest_held
 holds_live w id s h a e =
     elim (cases_Bool (is_some s.live)) [
       | inl x ↦ x
@@ -318,23 +330,25 @@ holds_live w id s h a e =
 pub gap_so_far : (F : Reader) (left rank : ℕ) (w : State) → IsSound w → 0 < left →
     rank < length (lives w.events) → is_holding w.held (flow_at w (get_or (lives w.events) rank 0))
     ≡ true
-    → SoFar left rank w → SoFar (left - 1) rank (gapped F w (get_or (lives w.events) rank 0))
-unfolding is_holding first_of
+    → HoldNothingBefore left rank w → HoldNothingBefore (left - 1) rank
+    (gapped F w (get_or (lives w.events) rank 0))
+unfolding is_holding oldest_held
 gap_so_far F left rank w h some l e so = by (flow_at w id) refl
   where
     id : ℕ
     id = get_or (lives w.events) rank 0
 
-    by : (o : Option FlowState) → flow_at w id ≡ o → SoFar (left - 1) rank (gapped F w id)
+    by : (o : Option FlowState) → flow_at w id ≡ o →
+        HoldNothingBefore (left - 1) rank (gapped F w id)
     by None a = search (arith, true≢false)
     by (Some s) a =
-        let holds : is_some (first s.id s.next w.held) ≡ true =
+        let holds : is_some (oldest_index s.id s.next w.held) ≡ true =
         sym (ap (is_holding w.held) a) ∙ e in
         let own : s.id ≡ id = h.ids id s a in
         let f : Flow = state s w.held w.events in
-        subst (SoFar (left - 1) rank) (sym (gapped_some F w id s a))
-        (by_gap left rank w (gap F f) id refl some l (gap_fewer F f holds)
-        (subst (λ (n : ℕ). held_by_others n (gap F f).held ≡ held_by_others n w.held) own
+        subst (HoldNothingBefore (left - 1) rank) (sym (gapped_some F w id s a))
+        (by_gap left rank w (with_gap F f) id refl some l (gap_fewer F f holds)
+        (subst (λ (n : ℕ). held_by_others n (with_gap F f).held ≡ held_by_others n w.held) own
         (gap_others F f))
         (gap_tail F id f (small_id w id h (some_within w.flows id s a)) own) so)
 
@@ -347,9 +361,9 @@ empty_by (p ∷ ps) h = absurd (let own : nat_eq p.flow p.flow ≡ true = eq-eqb
 
 -- if no flow in step holds anything, nothing is held
 pub all_so_far : (left rank : ℕ) (w : State) → IsSound w →
-    ((id : ℕ) → is_some (live_at w id) ≡ true → 0 < times id (lives w.events)) →
-    length (lives w.events) ≤ rank → SoFar left rank w → w.held ≡ []
-unfolding live_of
+    ((id : ℕ) → is_some (stream_start_at w id) ≡ true → 0 < times id (lives w.events)) →
+    length (lives w.events) ≤ rank → HoldNothingBefore left rank w → w.held ≡ []
+unfolding stream_start_of
 all_so_far left rank w h told over so = empty_by w.held (λ id. by id (flow_at w id) refl)
   where
     by : (id : ℕ) (o : Option FlowState) → flow_at w id ≡ o → count_of id w.held ≡ 0
@@ -357,7 +371,8 @@ all_so_far left rank w h told over so = empty_by w.held (λ id. by id (flow_at w
     by id (Some s) a = search (arith, cases_Bool, is_some, holds_live, times_index, none_held)
 
 -- if no gap is left, nothing is held
-pub none_so_far : (left rank : ℕ) (w : State) → left ≤ 0 → SoFar left rank w → w.held ≡ []
+pub none_so_far : (left rank : ℕ) (w : State) → left ≤ 0 → HoldNothingBefore left rank w →
+    w.held ≡ []
 none_so_far left rank w none so = nothing w.held (omega (arith, so.enough, so.reach, none))
   where
     nothing : (ps : List Payload) → length ps ≤ 0 → ps ≡ []

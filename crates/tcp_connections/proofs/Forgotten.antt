@@ -60,7 +60,7 @@ stays_gone : (w : State) (id j : ℕ) (cause : CloseCause) → id < length w.flo
 stays_gone w id j cause l h = forgot_either (λ v. flow_at v j ≡ None) w id cause (λ e. h)
     (λ s e. none_stays w id j l h)
 
-abbrev pub both_forgotten : State → ℕ → Side → CloseCause → State
+abbrev pub both_forgotten : (state : State) (slot : ℕ) (side : Side) (cause : CloseCause) → State
 both_forgotten w slot side cause = flow_forgotten (flow_forgotten w (flow_id slot side) cause)
     (flow_id slot (opposite side)) cause
 

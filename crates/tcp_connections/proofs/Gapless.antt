@@ -10,18 +10,18 @@ use Rattle.tcp_waiting.specs.Payload.{Payload}
 use Rattle.tcp_waiting.specs.declared.arrival.Arrival as origin
 use Rattle.tcp_flow.specs.declared.flow.CloseCause.TheVariants.{Syn}
 use Rattle.tcp_flow.specs.Flow.{CaptureEvent, Reader}
-use Rattle.tcp_flow.specs.Laws.{AllFollow, AllArePartsOf}
+use Rattle.tcp_flow.specs.Laws.{EventsMayFollow, AllArePartsOf}
 use Rattle.tcp_streams.specs.declared.pair.EndpointPair.{EndpointPair}
 use Rattle.tcp_streams.specs.declared.pair.Side.{Side}
 use Rattle.tcp_streams.specs.Pairs.{compare_pairs, pair_of, opposite, flow_id, flow_from}
-use Rattle.tcp_connections.specs.Connections.{State, with_segment, none_known, flow_at, began, syn_at, syn_kept, flow_of_side, index_of, slot_at, ended_by, with_room, next_slot, made_known, first_number, is_first, looked_through, is_kept, is_anew, fin_taken, unknown_taken, acknowledgement_heard, payload_taken, reset_taken, known_taken, step, after, with_packet, with_capture_event, ended}
+use Rattle.tcp_connections.specs.Connections.{State, with_segment, none_known, flow_at, began, syn_at, syn_kept, flow_of_side, index_of, slot_at, ended_by, with_room, next_slot, made_known, first_number, is_first_payload, looked_through, is_syn_to_keep, begins_anew, fin_taken, unknown_taken, acknowledgement_heard, payload_taken, reset_taken, known_taken, step, after, with_packet, with_capture_event, ended}
 use Rattle.tcp_connections.specs.declared.syns.KeptSyn.{KeptSyn}
 use Rattle.tcp_connections.specs.Gapless.{IsOfSegment, AreGapless, AreWhole, HaveSlots}
 use Rattle.tcp_connections.specs.Owned.{AreOwned}
 use Rattle.tcp_connections.specs.State.{times}
 use Rattle.tcp_connections.proofs.Cases.{step_unknown, step_kept, step_anew, step_known}
 use Rattle.tcp_connections.proofs.Closed.{all_closed_follow}
-use Rattle.tcp_connections.proofs.Following.{some_same, due_in, Follow, gaps_follow}
+use Rattle.tcp_connections.proofs.Following.{some_same, due_in, FlowsFollow, gaps_follow}
 use Rattle.tcp_connections.proofs.Kept.{acknowledgement_kept, payload_kept, fin_kept, half}
 use Rattle.tcp_connections.proofs.Owners.{owner_of}
 use Rattle.tcp_connections.proofs.OwnersEnd.{end_owns}
@@ -30,18 +30,20 @@ use Rattle.tcp_connections.proofs.OwnersGrown.{slice_more, owns_grown, none_owns
 use Rattle.tcp_connections.proofs.OwnersKnown.{theirs_at, flow_of_pair}
 use Rattle.tcp_connections.proofs.OwnFlows.{either}
 use Rattle.tcp_connections.proofs.Search.{forgotten_unknown}
-pub use Rattle.tcp_connections.proofs.SegmentParts.{At}
-use Rattle.tcp_connections.proofs.SegmentParts.{IsIn, capture_at, looked_at, fin_at, heard_at, first_at, payload_at, id_within, shown_at, reset_at, with_room_at, made_owner, made_at}
+pub use Rattle.tcp_connections.proofs.SegmentParts.{IsSoundAfter}
+use Rattle.tcp_connections.proofs.SegmentParts.{IsAmongSegments, capture_at, looked_at, fin_at, heard_at, first_at, payload_at, id_within, shown_at, reset_at, with_room_at, made_owner, made_at}
 use Rattle.tcp_connections.proofs.Shown.{shown_known}
-use Rattle.tcp_connections.proofs.Sound.{IsApart, some_none, apart_taken, slot_below, sound_seen}
+use Rattle.tcp_connections.proofs.Sound.{IsOfNoFreeSlot, some_none, apart_taken, slot_below, sound_seen}
 use Rattle.tcp_connections.proofs.Start.{none_sound}
 use Rattle.tcp_connections.proofs.Times.{times_at, no_flow, none_there}
 use Rattle.tcp_connections.proofs.Unknown.{room_enough, next_below, next_vacant, next_taken, made_flows}
 
 -- ---- A segment comes.
 
-unknown_at : (segments : List Segment) (F : Reader) (w : State) (s : Segment) → IsIn segments s →
-    index_of (pair_of s.flow).0 w.known ≡ None → At segments w → At segments (unknown_taken F w s)
+unknown_at : (segments : List Segment) (F : Reader) (w : State) (s : Segment) →
+    IsAmongSegments segments s →
+    index_of (pair_of s.flow).0 w.known ≡ None → IsSoundAfter segments w →
+    IsSoundAfter segments (unknown_taken F w s)
 unfolding unknown_taken
 unknown_at segments F w s among new h =
     let pair : EndpointPair = (pair_of s.flow).0 in
@@ -51,8 +53,8 @@ unknown_at segments F w s among new h =
     let id : ℕ = flow_id slot side in
     let made : State = made_known v pair in
     let enough = room_enough F w pair h.sound new in
-    let roomy : At segments v = with_room_at segments F w h in
-    let m : At segments made = made_at segments v pair enough.1 enough.0 roomy in
+    let roomy : IsSoundAfter segments v = with_room_at segments F w h in
+    let m : IsSoundAfter segments made = made_at segments v pair enough.1 enough.0 roomy in
     let below : slot < length v.lasts = next_below v roomy.sound enough.1 in
     let within : id < length made.flows = omega (
       arith,
@@ -61,20 +63,21 @@ unknown_at segments F w s among new h =
     ) in
     let taken : 0 < times (id / 2) made.slots =
     subst (λ (n : ℕ). 0 < times n made.slots) (sym (half slot side)) (next_taken v pair) in
-    let apart : IsApart made id = apart_taken made id m.sound taken in
+    let apart : IsOfNoFreeSlot made id = apart_taken made id m.sound taken in
     let began_there : State = began F made id (first_number s) s.payload in
     let own : owner_of made.events id ≡ Some s.flow =
     (made_owner segments v pair enough.1 roomy.sound roomy.owns).own side
     ∙ ap Some (flow_of_pair s.flow) in
-    let b : At segments began_there = first_at segments F made id s among own m
+    let b : IsSoundAfter segments began_there = first_at segments F made id s among own m
     (next_vacant v pair side roomy.sound enough.1) within apart in
-    either (At segments) (is_first w.ports s) (fin_taken F began_there id s) (looked_through w s)
+    either (IsSoundAfter segments) (is_first_payload w.ports s) (fin_taken F began_there id s)
+    (looked_through w s)
     (fin_at segments F began_there id s b) (looked_at segments w s h)
 
 seen_at : (segments : List Segment) (w : State) (lasts : List ℕ) (syns : List (Option KeptSyn))
     (noted : List Bool) (count : ℕ) (arrival : origin.Arrival) → length lasts ≡ length w.lasts →
-    At segments w →
-    At segments (record w {
+    IsSoundAfter segments w →
+    IsSoundAfter segments (record w {
       lasts = lasts;
       syns = syns;
       came = noted;
@@ -83,14 +86,16 @@ seen_at : (segments : List Segment) (w : State) (lasts : List ℕ) (syns : List 
     })
 seen_at segments w lasts syns noted count arrival e h = search (arith, sound_seen)
 
-syn_kept_at : (segments : List Segment) (w : State) (slot id : ℕ) (s : Segment) → At segments w →
-    At segments (syn_kept w slot id s)
+syn_kept_at : (segments : List Segment) (w : State) (slot id : ℕ) (s : Segment) →
+    IsSoundAfter segments w →
+    IsSoundAfter segments (syn_kept w slot id s)
 unfolding syn_kept
 syn_kept_at segments w slot id s h = search (arith, seen_at, set, length-set)
 
 known_at : (segments : List Segment) (F : Reader) (w : State) (index : ℕ) (s : Segment) →
-    IsIn segments s → index_of (pair_of s.flow).0 w.known ≡ Some index → index < length w.known →
-    At segments w → At segments (known_taken F w index s)
+    IsAmongSegments segments s → index_of (pair_of s.flow).0 w.known ≡ Some index →
+    index < length w.known →
+    IsSoundAfter segments w → IsSoundAfter segments (known_taken F w index s)
 unfolding known_taken
 known_at segments F w index s among is l h =
     let side : Side = (pair_of s.flow).1 in
@@ -101,7 +106,7 @@ known_at segments F w index s among is l h =
     let told : State = acknowledgement_heard F seen opposite_id s in
     let paid : State = payload_taken F told id s in
     let kept = acknowledgement_kept F seen opposite_id s in
-    let at_told : At segments told = heard_at segments F seen opposite_id
+    let at_told : IsSoundAfter segments told = heard_at segments F seen opposite_id
     s.acknowledgement (nat_lt 0 (length s.payload))
     (seen_at segments w (set w.lasts slot w.segments) w.syns (set w.came id true) w.segments
     w.arrival
@@ -121,7 +126,8 @@ known_at segments F w index s among is l h =
     subst (λ (rs : List ℕ). owner_of told.events (flow_id (get_or rs index 0) side)
     ≡ Some (flow_from (pair_of s.flow).0 side)) kept.slots there
     ∙ ap Some (flow_of_pair s.flow) in
-    let at_paid : At segments paid = payload_at segments F told id s among mine at_told within
+    let at_paid : IsSoundAfter segments paid =
+    payload_at segments F told id s among mine at_told within
     (apart_taken told id at_told.sound taken) in
     let known : (fin_taken F paid id s).known ≡ w.known =
     (fin_kept F paid id s).known ∙ (payload_kept F told id s).known ∙ kept.known in
@@ -150,35 +156,37 @@ index_within p (q ∷ qs) i e =
     further None n i h d = search (arith, true≢false, is_some)
     further (Some k) n i h d = search (arith, some_same)
 
-step_at_in : (segments : List Segment) (F : Reader) (w : State) (s : Segment) → IsIn segments s →
-    At segments w → At segments (step F w s)
+step_at_in : (segments : List Segment) (F : Reader) (w : State) (s : Segment) →
+    IsAmongSegments segments s →
+    IsSoundAfter segments w → IsSoundAfter segments (step F w s)
 step_at_in segments F w s among h = by (index_of (pair_of s.flow).0 w.known) refl
   where
     v : State
     v = record w { segments = w.segments + 1 }
 
-    counted : At segments v
+    counted : IsSoundAfter segments v
     counted = search (arith, seen_at)
 
-    by : (o : Option ℕ) → index_of (pair_of s.flow).0 w.known ≡ o → At segments (step F w s)
+    by : (o : Option ℕ) → index_of (pair_of s.flow).0 w.known ≡ o →
+        IsSoundAfter segments (step F w s)
     by None e = search (arith, step_unknown, unknown_at, counted)
     by (Some index) e =
         let side : Side = (pair_of s.flow).1 in
         let within : index < length w.known = index_within (pair_of s.flow).0 w.known index e in
         let slot : ℕ = slot_at w index in
         let id : ℕ = flow_id slot side in
-        elim (cases_Bool (is_kept (flow_of_side w index side) s)) [
-          | inl k ↦ subst (At segments) (sym (step_kept F w s index e k))
+        elim (cases_Bool (is_syn_to_keep (flow_of_side w index side) s)) [
+          | inl k ↦ subst (IsSoundAfter segments) (sym (step_kept F w s index e k))
               (syn_kept_at segments v slot id s counted)
           | inr k ↦
-              elim (cases_Bool (is_anew (syn_at w slot) id s)) [
+              elim (cases_Bool (begins_anew (syn_at w slot) id s)) [
                 | inl a ↦
-                    subst (At segments) (sym (step_anew F w s index e k a))
+                    subst (IsSoundAfter segments) (sym (step_anew F w s index e k a))
                     (unknown_at segments F (ended_by F v index side Syn) s among
                     (ap (index_of (pair_of s.flow).0) (shown_known F v index slot side side Syn)
                     ∙ forgotten_unknown (pair_of s.flow).0 w.known index h.sound.order e)
                     (shown_at segments F v index slot side side Syn within counted))
-                | inr a ↦ subst (At segments) (sym (step_known F w s index e k a))
+                | inr a ↦ subst (IsSoundAfter segments) (sym (step_known F w s index e k a))
                     (known_at segments F v index s among e within counted)
               ]
         ]
@@ -193,9 +201,10 @@ all_of_more segments s [] h = tt
 all_of_more segments s (p ∷ ps) h = search (arith, slice_more, all_of_more segments s ps h.1)
 
 -- one more segment
-pub step_at : (segments : List Segment) (F : Reader) (w : State) (s : Segment) → At segments w →
-    At (segments ++ s ∷ []) (step F w s)
-unfolding IsIn
+pub step_at : (segments : List Segment) (F : Reader) (w : State) (s : Segment) →
+    IsSoundAfter segments w →
+    IsSoundAfter (segments ++ s ∷ []) (step F w s)
+unfolding IsAmongSegments
 step_at segments F w s h =
     step_at_in (segments ++ s ∷ []) F w s (length segments, slice_last segments s)
     (record {
@@ -207,29 +216,30 @@ step_at segments F w s h =
       owns = owns_grown segments s w h.owns;
     })
 
-pub after_at : (before segments : List Segment) (F : Reader) (w : State) → At before w →
-    At (before ++ segments) (after F w segments)
+pub after_at : (before segments : List Segment) (F : Reader) (w : State) → IsSoundAfter before w →
+    IsSoundAfter (before ++ segments) (after F w segments)
 unfolding after
 after_at before [] F w h = search (arith, append-nil)
 after_at before (s ∷ ss) F w h =
-    subst (λ (all : List Segment). At all (after F (step F w s) ss))
+    subst (λ (all : List Segment). IsSoundAfter all (after F (step F w s) ss))
     (append_assoc before (s ∷ []) ss) (after_at (before ++ s ∷ []) ss F (step F w s)
     (step_at before F w s h))
 
 -- one more packet is read
-pub packet_at : (segments : List Segment) (w : State) (time : Option ℕ) → At segments w →
-    At segments (with_packet w time)
+pub packet_at : (segments : List Segment) (w : State) (time : Option ℕ) → IsSoundAfter segments w →
+    IsSoundAfter segments (with_packet w time)
 packet_at segments w time h = search (arith, seen_at)
 
 -- the listener is told of the capture
-pub told_at : (segments : List Segment) (w : State) (event : CaptureEvent) → At segments w →
-    At segments (with_capture_event w event)
+pub told_at : (segments : List Segment) (w : State) (event : CaptureEvent) →
+    IsSoundAfter segments w →
+    IsSoundAfter segments (with_capture_event w event)
 told_at segments w event h = capture_at segments w event h
 
 -- no connection is known
 pub start_at : (ports : List ℕ) (blocks most : ℕ) → 1 ≤ most → most ≤ 65536 →
-    At [] (none_known ports blocks most [])
-unfolding AllArePartsOf AllFollow
+    IsSoundAfter [] (none_known ports blocks most [])
+unfolding AllArePartsOf EventsMayFollow
 start_at ports blocks most some few =
     record {
       sound = none_sound ports blocks most [] some few;
@@ -251,7 +261,7 @@ start_at ports blocks most some few =
 -- ---- Streams have no gaps.
 
 gapless_by : (segments : List Segment) (payloads : List Payload) (w : State) →
-    AllByRecursion (IsOfSegment segments) payloads → Follow payloads w →
+    AllByRecursion (IsOfSegment segments) payloads → FlowsFollow payloads w →
     AreGapless segments w.events
 gapless_by segments payloads w came h = record {
   payloads = payloads;
@@ -260,16 +270,16 @@ gapless_by segments payloads w came h = record {
       λ flow. (due_in (flow_at w flow), h.events flow);
 }
 
-pub gapless_of : (segments : List Segment) (w : State) → At segments w →
+pub gapless_of : (segments : List Segment) (w : State) → IsSoundAfter segments w →
     AreGapless segments w.events
 gapless_of segments w h = search (arith, gapless_by)
 
-pub ended_whole : (segments : List Segment) (F : Reader) (w : State) → At segments w →
+pub ended_whole : (segments : List Segment) (F : Reader) (w : State) → IsSoundAfter segments w →
     AreWhole segments (ended F w).events
 unfolding ended
 ended_whole segments F w h = search (arith, gaps_follow, all_closed_follow)
 
-pub ended_gapless : (segments : List Segment) (F : Reader) (w : State) → At segments w →
+pub ended_gapless : (segments : List Segment) (F : Reader) (w : State) → IsSoundAfter segments w →
     AreGapless segments (ended F w).events
 ended_gapless segments F w h =
     let whole : AreWhole segments (ended F w).events = ended_whole segments F w h in
@@ -302,7 +312,7 @@ after_owned F ports blocks most segments some few =
     (after_at [] segments F (none_known ports blocks most [])
     (start_at ports blocks most some few)).owns.come
 
-pub ended_owned : (segments : List Segment) (F : Reader) (w : State) → At segments w →
+pub ended_owned : (segments : List Segment) (F : Reader) (w : State) → IsSoundAfter segments w →
     AreOwned segments (ended F w).events
 ended_owned segments F w h = (end_owns segments h.payloads F w h.follow h.owns).come
 
@@ -316,7 +326,7 @@ after_end_owned F ports blocks most segments some few =
 -- ---- Each event is in a flow of a connection that has a slot.
 
 pub ended_have_slots : (segments : List Segment) (F : Reader) (most : ℕ) (w : State) →
-    At segments w → slots_in w ≡ most → HaveSlots most (ended F w).events
+    IsSoundAfter segments w → slots_in w ≡ most → HaveSlots most (ended F w).events
 ended_have_slots segments F most w h many =
     owned_slots segments most (ended F w) (end_owns segments h.payloads F w h.follow h.owns)
     (ended_slots F w ∙ many)

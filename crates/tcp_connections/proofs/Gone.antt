@@ -12,7 +12,7 @@ use Rattle.tcp_streams.specs.declared.pair.EndpointPair.{EndpointPair}
 use Rattle.tcp_streams.specs.declared.pair.Side.{Side}
 use Rattle.tcp_streams.specs.Lives.{lives, elder_side}
 use Rattle.tcp_streams.specs.Pairs.{compare_pairs, pair_of, flow_id}
-use Rattle.tcp_connections.specs.Connections.{State, none_known, index_of, index_among, slot_at, shown_by_age, ended_by, with_room, next_slot, made_known, began, first_number, is_first, is_kept, is_anew, is_reset, is_near_due, flow_of_side, syn_at, syn_kept, before_reset, fin_taken, unknown_taken, known_taken, step, after}
+use Rattle.tcp_connections.specs.Connections.{State, none_known, index_of, insertion_index, slot_at, shown_by_age, ended_by, with_room, next_slot, made_known, began, first_number, is_first_payload, is_syn_to_keep, begins_anew, is_reset, is_near_due, flow_of_side, syn_at, syn_kept, before_reset, fin_taken, unknown_taken, known_taken, step, after}
 use Rattle.tcp_connections.specs.Forgetting.{MakesRoom, MakesWay, BeginsAnew, IsForgottenBy}
 use Rattle.tcp_connections.specs.State.{IsSound}
 use Rattle.tcp_connections.proofs.Cases.{no_reset, a_reset, unknown_nothing, unknown_first, room_there, step_unknown, step_kept, step_anew, step_known}
@@ -99,7 +99,7 @@ unknown_gone : (F : Reader) (w : State) (s : Segment) (p : EndpointPair) →
     → index_of p (unknown_taken F w s).known ≡ None → MakesWay w s p
 unfolding made_known
 unknown_gone F w s p some new k e =
-    elim (cases_Bool (is_first w.ports s)) [
+    elim (cases_Bool (is_first_payload w.ports s)) [
       | inr f ↦ absurd (both (index_of p w.known) k
           (sym (ap (index_of p) (ap (λ (u : State). u.known) (unknown_nothing F w s f)
           ∙ (looked_kept w s).known)) ∙ e))
@@ -112,7 +112,7 @@ unknown_gone F w s p some new k e =
           let known : (fin_taken F begun id s).known ≡ made.known =
           (fin_kept F begun id s).known ∙ (began_kept F made id (first_number s) s.payload).known in
           let gone : index_of p v.known ≡ None =
-          none_before_insert p pair v.known (index_among pair v.known)
+          none_before_insert p pair v.known (insertion_index pair v.known)
           (sym (ap (index_of p) known)
           ∙ sym (ap (λ (u : State). index_of p u.known) (unknown_first F w s f)) ∙ e) in
           elim (cases_lt (length w.known) (length w.lasts)) [
@@ -199,9 +199,10 @@ known_gone F w index s p l found k e = search (
 
 -- what a segment that begins its connection anew says of the SYN that is kept
 anew_of : (w : State) (s : Segment) (index : ℕ) →
-    is_anew (syn_at w (slot_at w index)) (flow_id (slot_at w index) (pair_of s.flow).1) s ≡ true →
+    begins_anew (syn_at w (slot_at w index)) (flow_id (slot_at w index) (pair_of s.flow).1) s
+    ≡ true →
     BeginsAnew w s index
-unfolding is_anew
+unfolding begins_anew
 anew_of w s index a = search (arith, true≢false)
 
 -- a segment that begins its connection anew
@@ -249,12 +250,12 @@ step_gone F w s p h k e = by (index_of (pair_of s.flow).0 w.known) refl
         let within : index < length w.known = index_within (pair_of s.flow).0 w.known index d in
         let slot : ℕ = slot_at w index in
         let id : ℕ = flow_id slot side in
-        elim (cases_Bool (is_kept (flow_of_side w index side) s)) [
+        elim (cases_Bool (is_syn_to_keep (flow_of_side w index side) s)) [
           | inl n ↦ absurd (both (index_of p w.known) k
               (kept_known p v slot id s (after_step (syn_kept v slot id s)
               (step_kept F w s index d n))))
           | inr n ↦
-              elim (cases_Bool (is_anew (syn_at w slot) id s)) [
+              elim (cases_Bool (begins_anew (syn_at w slot) id s)) [
                 | inl a ↦
                     (let own = anew_gone F v index side s p sound within d k
                     (after_step (unknown_taken F (ended_by F v index side Syn) s)

@@ -3,10 +3,10 @@ use Rattle.std.proofs.Common.{◌≡◌, ℕ, zero, suc, ◌<◌, ◌≤◌, ◌
 use Rattle.std.proofs.lemmas.Bool.{cases_Bool, cases_eq, cases_lt, eqb-true}
 use Rattle.tcp_waiting.specs.Payload.{load_of}
 use Rattle.tcp_streams.specs.Lives.{lives}
-use Rattle.tcp_slots.specs.Ranks.{IsFirst}
-use Rattle.tcp_connections.specs.declared.givers.Givers.{Givers}
-use Rattle.tcp_connections.specs.Connections.{State, live_at, heaviest}
-use Rattle.tcp_connections.specs.Givers.{number_at}
+use Rattle.tcp_slots.specs.Ranks.{IsUniqueLeast}
+use Rattle.tcp_connections.specs.declared.givers.GapRanks.{GapRanks}
+use Rattle.tcp_connections.specs.Connections.{State, stream_start_at, heaviest}
+use Rattle.tcp_connections.specs.Givers.{recency_of}
 use Rattle.tcp_connections.specs.Heaviest.{IsHeaviest}
 use Rattle.tcp_connections.specs.State.{AreRanked, IsSound, StandBefore, times}
 use Rattle.tcp_connections.proofs.Heaviest.{heaviest_first, loaded_told, loaded_within}
@@ -53,10 +53,10 @@ heaviest_before w id h l ne as_much =
       ]
     ]
 
-pub first_gives_up : (g : Givers) (w : State) (id : ℕ) → IsSound w →
-    ((j : ℕ) → is_some (live_at w j) ≡ true → 0 < times j (lives w.events))
+pub first_gives_up : (g : GapRanks) (w : State) (id : ℕ) → IsSound w →
+    ((j : ℕ) → is_some (stream_start_at w j) ≡ true → 0 < times j (lives w.events))
     → AreRanked g (length w.flows) w.held (lives w.events)
-    → IsFirst g.ranks.slots g.ranks.nodes.items id → ((j : ℕ) → number_at g j < 2 ^ 64)
+    → IsUniqueLeast g.ranks.slots g.ranks.nodes.items id → ((j : ℕ) → recency_of g j < 2 ^ 64)
     → 0 < load_of id w.held → id ≡ heaviest w
 first_gives_up g w id h told ranked first small some =
     let ids : List ℕ = lives w.events in

@@ -1,10 +1,10 @@
 -- The flow that gives up if the pool is short holds something: no flow holds more.
 use Rattle.std.proofs.Common.{◌≡◌, ℕ, zero, suc, ◌+◌, ◌/◌, ◌<◌, ◌≤◌, Bool, true, false, cond, nat_eq, nat_lt, List, [], ◌∷◌, length, get_or, Option, Some, None, is_some, refl, ◌∙◌, ap, subst, arith, inl, inr}
 use Rattle.std.proofs.lemmas.Bool.{cases_Bool, cases_lt, eqb-true, eq-eqb, ltb-true, ltb-false}
-use Rattle.tcp_waiting.specs.Payload.{Payload, first, blocks_of, count_of, load_of}
+use Rattle.tcp_waiting.specs.Payload.{Payload, oldest_index, blocks_of, count_of, load_of}
 use Rattle.tcp_flow.specs.declared.flow.FlowState.{FlowState}
 use Rattle.tcp_streams.specs.Lives.{lives}
-use Rattle.tcp_connections.specs.Connections.{State, flow_at, live_of, live_at, is_holding, heavier, heaviest_from, heaviest}
+use Rattle.tcp_connections.specs.Connections.{State, flow_at, stream_start_of, stream_start_at, is_holding, heavier, heaviest_from, heaviest}
 use Rattle.tcp_connections.specs.Heaviest.{IsHeaviest}
 use Rattle.tcp_connections.specs.State.{IsSound, times}
 use Rattle.tcp_connections.proofs.Ending.{idle, none_held, holds_live}
@@ -73,7 +73,7 @@ from_each held id (x ∷ xs) other l =
     ]
 
 -- the first of several flows that holds the most, after one before them
-record IsFrom (held : List Payload) (id : ℕ) (ids : List ℕ) (best : ℕ) : Type 0 where
+record IsHeaviestFrom (held : List Payload) (id : ℕ) (ids : List ℕ) (best : ℕ) : Type 0 where
   rank : ℕ
   within : rank < length (id ∷ ids)
   is : best ≡ get_or (id ∷ ids) rank 0
@@ -83,7 +83,8 @@ record IsFrom (held : List Payload) (id : ℕ) (ids : List ℕ) (best : ℕ) : T
 
 -- one more flow before the others, which holds less
 from_less : (held : List Payload) (id x : ℕ) (xs : List ℕ) (best : ℕ) →
-    load_of id held < load_of x held → IsFrom held x xs best → IsFrom held id (x ∷ xs) best
+    load_of id held < load_of x held → IsHeaviestFrom held x xs best →
+    IsHeaviestFrom held id (x ∷ xs) best
 from_less held id x xs best less h =
     let front = h.most 0 (omega arith) in
     record {
@@ -106,7 +107,8 @@ from_less held id x xs best less h =
 
 -- one more flow in the second place, which holds no more than the first
 from_more : (held : List Payload) (id x : ℕ) (xs : List ℕ) (best : ℕ) →
-    load_of x held ≤ load_of id held → IsFrom held id xs best → IsFrom held id (x ∷ xs) best
+    load_of x held ≤ load_of id held → IsHeaviestFrom held id xs best →
+    IsHeaviestFrom held id (x ∷ xs) best
 from_more held id x xs best less h = by h.rank h.within h.is h.first
   where
     each : (k : ℕ) → k < length (id ∷ x ∷ xs) →
@@ -117,7 +119,7 @@ from_more held id x xs best less h = by h.rank h.within h.is h.first
 
     by : (r : ℕ) → r < length (id ∷ xs) → best ≡ get_or (id ∷ xs) r 0 →
         ((k : ℕ) → k < r → load_of (get_or (id ∷ xs) k 0) held < load_of best held) →
-        IsFrom held id (x ∷ xs) best
+        IsHeaviestFrom held id (x ∷ xs) best
     by zero l e f = record {
       rank = 0;
       within = omega arith;
@@ -140,7 +142,7 @@ from_more held id x xs best less h = by h.rank h.within h.is h.first
         before (suc (suc k)) b = f (suc k) (omega (arith, b))
 
 from_is : (held : List Payload) (id : ℕ) (ids : List ℕ) →
-    IsFrom held id ids (heaviest_from held id ids)
+    IsHeaviestFrom held id ids (heaviest_from held id ids)
 unfolding heaviest_from
 from_is held id [] = record {
   rank = 0;
@@ -164,7 +166,7 @@ unfolding heaviest_from
 heaviest_first held [] some = absurd (omega (arith, some))
 heaviest_first held (x ∷ xs) some =
     let own : heavier held x x ≡ x = either (nat_lt (load_of x held) (load_of x held)) in
-    let h : IsFrom held x xs (heaviest_from held x xs) = from_is held x xs in
+    let h : IsHeaviestFrom held x xs (heaviest_from held x xs) = from_is held x xs in
     rw own (record {
       rank = h.rank;
       within = h.within;
@@ -189,17 +191,17 @@ loaded_within w id h l = by (flow_at w id) refl
 
 -- a flow that holds blocks is one of those
 pub loaded_told : (w : State) (id : ℕ) → IsSound w →
-    ((j : ℕ) → is_some (live_at w j) ≡ true → 0 < times j (lives w.events))
+    ((j : ℕ) → is_some (stream_start_at w j) ≡ true → 0 < times j (lives w.events))
     → 0 < load_of id w.held → 0 < times id (lives w.events)
-unfolding live_of
+unfolding stream_start_of
 loaded_told w id h told l = by (flow_at w id) refl
   where
     by : (o : Option FlowState) → flow_at w id ≡ o → 0 < times id (lives w.events)
     by None e = absurd (omega (arith, l, none_counted id w.held (h.vacant id e)))
     by (Some s) e =
         let own : s.id ≡ id = h.ids id s e in
-        elim (cases_Bool (is_some (first s.id s.next w.held))) [
-          | inl some ↦ told id (ap (λ (o : Option FlowState). is_some (live_of o)) e
+        elim (cases_Bool (is_some (oldest_index s.id s.next w.held))) [
+          | inl some ↦ told id (ap (λ (o : Option FlowState). is_some (stream_start_of o)) e
               ∙ holds_live w id s h e some)
           | inr none ↦ absurd (omega (
             arith,
@@ -211,7 +213,7 @@ loaded_told w id h told l = by (flow_at w id) refl
 
 -- if the pool is short, the flow that gives up holds something
 pub heaviest_holds : (w : State) → IsSound w →
-    ((j : ℕ) → is_some (live_at w j) ≡ true → 0 < times j (lives w.events))
+    ((j : ℕ) → is_some (stream_start_at w j) ≡ true → 0 < times j (lives w.events))
     → w.blocks < blocks_of w.held → is_holding w.held (flow_at w (heaviest w)) ≡ true
 heaviest_holds w h told short =
     let i = some_load w.held (omega (arith, short)) in

@@ -7,22 +7,22 @@ use Rattle.tcp_flow.specs.declared.flow.CloseCause.TheVariants.{Fin, Reset, Syn,
 use Rattle.tcp_flow.specs.declared.flow.CloseCause.TheVariants as causes
 use Rattle.tcp_waiting.specs.Numbers.{age, onward}
 use Rattle.tcp_waiting.specs.declared.arrival.Arrival as origin
-use Rattle.tcp_waiting.specs.Payload.{Payload, payload, has_as_much, put}
-use Rattle.tcp_flow.specs.Flow.{Flow, Event, Opens, Begins, Delivers, Closes, OfCapture, ComesFrom, Reader, Arrival, Octets, End, Hears, left, with_event, delivered, looked_through as flow_looked, tail_before, told_from, taken, at, closed, holding, gone_on, within_window, payload_came, fin_came, gap, fresh, first_payload, step, CaptureEvent, Passes, stopped, checked, number_after, handed, start_at, started, resumed, awaiting, out_of_step, lives as has_stream}
+use Rattle.tcp_waiting.specs.Payload.{Payload, payload, holds_as_long, put}
+use Rattle.tcp_flow.specs.Flow.{Flow, Event, Opens, Begins, Delivers, Closes, OfCapture, ComesFrom, Reader, Arrival, Octets, End, Hears, without_old_octets, with_event, delivered, looked_through as flow_looked, tail_continued_by, with_arrival_told, taken, at, closed, with_held, gone_on_with_held, within_window, payload_came, fin_came, with_gap, fresh, first_payload, step, CaptureEvent, Passes, stream_closed, closed_at_fault, number_after_octet, delivered_unchecked, start_at, started, begun_if_awaited, awaiting_stream, out_of_step, lives as has_stream}
 use Rattle.tcp_flow.specs.declared.tail.Tail.{Tail}
 use Rattle.tcp_flow.proofs.Tails.{looked_by}
-use Rattle.tcp_flow.proofs.Preserving.{Keeps, gone_on_keeps, window_keeps, heard_keeps, gap_keeps}
-use Rattle.tcp_streams.specs.Lives.{lives, lives_from, behind, begun, ended, without, most_ids, AreIds}
+use Rattle.tcp_flow.proofs.Preserving.{StepsKeep, gone_on_keeps, window_keeps, heard_keeps, gap_keeps}
+use Rattle.tcp_streams.specs.Lives.{lives, lives_from, lives_behind, with_begun, with_closed, without, most_ids, AreIds}
 use Rattle.tcp_streams.proofs.Ids.{none_ids, begun_ids, ended_ids}
 use Rattle.tcp_streams.proofs.Order.{lives_more}
 use Rattle.tcp_connections.specs.State.{times}
-use Rattle.tcp_connections.proofs.Before.{IsOrdered, order_begun, order_ended}
+use Rattle.tcp_connections.proofs.Before.{KeepsOrderBut, order_begun, order_ended}
 use Rattle.tcp_connections.proofs.Times.{times_last, times_own}
 
 -- ---- Each live stream is told once.
 
-pub behind_ids : (live : List ℕ) (e : Event) → AreIds live → AreIds (behind live e)
-unfolding behind
+pub behind_ids : (live : List ℕ) (e : Event) → AreIds live → AreIds (lives_behind live e)
+unfolding lives_behind
 behind_ids live (Opens id endpoints) h = h
 behind_ids live (Begins id number) h = begun_ids id live h
 behind_ids live (Delivers id octets) h = h
@@ -32,7 +32,7 @@ behind_ids live (OfCapture event) h = h
 from_ids : (live : List ℕ) (es : List Event) → AreIds live → AreIds (lives_from live es)
 unfolding lives_from
 from_ids live [] h = h
-from_ids live (e ∷ es) h = from_ids (behind live e) es (behind_ids live e h)
+from_ids live (e ∷ es) h = from_ids (lives_behind live e) es (behind_ids live e h)
 
 pub lives_ids : (es : List Event) → AreIds (lives es)
 lives_ids es = from_ids [] es none_ids
@@ -53,15 +53,15 @@ times_without n j [] apart = refl
 times_without n j (x ∷ xs) apart = without_by n j x xs (nat_eq x n) refl apart
     (times_without n j xs apart)
 
-pub begun_own : (id : ℕ) (xs : List ℕ) → id < most_ids → 0 < times id (begun id xs)
-unfolding begun
+pub begun_own : (id : ℕ) (xs : List ℕ) → id < most_ids → 0 < times id (with_begun id xs)
+unfolding with_begun
 begun_own id xs l =
     subst (λ (ys : List ℕ). 0 < times id ys)
     (sym (cond-true (nat_lt id most_ids) (without id xs ++ id ∷ []) xs (lt-ltb id most_ids l)))
     (omega (arith, times_last id (without id xs) id, times_own id))
 
-pub begun_beside : (id j : ℕ) (xs : List ℕ) → (j ≡ id → ⊥) → times j (begun id xs) ≡ times j xs
-unfolding begun
+pub begun_beside : (id j : ℕ) (xs : List ℕ) → (j ≡ id → ⊥) → times j (with_begun id xs) ≡ times j xs
+unfolding with_begun
 begun_beside id j xs apart =
     elim (cases_Bool (nat_lt id most_ids)) [
       | inl e ↦
@@ -73,16 +73,16 @@ begun_beside id j xs apart =
     ]
 
 -- a flow in step is among those that were told to have streams, if it is there n times
-abbrev pub IsTold : Bool → ℕ → Type 0
-IsTold live n = live ≡ true → 0 < n
+abbrev pub IsToldIfLive : (live : Bool) (count : ℕ) → Type 0
+IsToldIfLive live n = live ≡ true → 0 < n
 
 -- what a flow of this id has done since: its stream is told if it lives, and the streams of others
 -- stay, in their order
-pub record IsTurn (id : ℕ) (es : List Event) (g : Flow) : Type 0 where
-  pub same : g.id ≡ id
-  pub own : IsTold (is_some g.live) (times id (lives g.events))
-  pub beside : (j : ℕ) → (j ≡ id → ⊥) → times j (lives g.events) ≡ times j (lives es)
-  pub order : IsOrdered id (lives es) (lives g.events)
+pub record MovesOnlyOwn (id : ℕ) (before : List Event) (flow : Flow) : Type 0 where
+  pub same : flow.id ≡ id
+  pub own : IsToldIfLive (is_some flow.live) (times id (lives flow.events))
+  pub beside : (j : ℕ) → (j ≡ id → ⊥) → times j (lives flow.events) ≡ times j (lives before)
+  pub order : KeepsOrderBut id (lives before) (lives flow.events)
 
 either : {X : Type 0} (P : X → Type 0) (b : Bool) (x y : X) → P x → P y → P (cond b x y)
 either P true x y p q = p
@@ -90,7 +90,7 @@ either P false x y p q = q
 
 -- after a close, other flows are there as often as before
 pub times_ended : (n j : ℕ) (cause : CloseCause) (xs : List ℕ) → (j ≡ n → ⊥) →
-    times j (ended n cause xs) ≡ times j xs
+    times j (with_closed n cause xs) ≡ times j xs
 times_ended n j Gap xs apart = refl
 times_ended n j causes.End xs apart = refl
 times_ended n j Fin xs apart = times_without n j xs apart
@@ -100,25 +100,26 @@ times_ended n j Fault xs apart = times_without n j xs apart
 times_ended n j Room xs apart = times_without n j xs apart
 
 closing_turn : (id : ℕ) (es : List Event) (g : Flow) (n : ℕ) (cause : CloseCause) →
-    IsTurn id es g → IsTurn id es (stopped g n cause)
-unfolding with_event behind
+    MovesOnlyOwn id es g → MovesOnlyOwn id es (stream_closed g n cause)
+unfolding with_event lives_behind
 closing_turn id es g n cause t =
     record {
       same = t.same;
       own = λ e. absurd (true≢false (sym e));
       beside = λ j n. ap (times j) (lives_more [] g.events (Closes g.id cause))
           ∙ times_ended g.id j cause (lives g.events) (λ o. n (o ∙ t.same)) ∙ t.beside j n;
-      order = subst (IsOrdered id (lives es))
+      order = subst (KeepsOrderBut id (lives es))
           (sym (lives_more [] g.events (Closes g.id cause)
-          ∙ ap (λ (k : ℕ). ended k cause (lives g.events)) t.same))
+          ∙ ap (λ (k : ℕ). with_closed k cause (lives g.events)) t.same))
           (order_ended id cause (lives es) (lives g.events) (lives_ids g.events) t.order);
     }
 
 pub closed_turn : (id : ℕ) (es : List Event) (g : Flow) (cause : CloseCause) →
-    IsTurn id es g → IsTurn id es (closed g cause)
+    MovesOnlyOwn id es g → MovesOnlyOwn id es (closed g cause)
 unfolding closed
 closed_turn id es g cause t =
-    either (IsTurn id es) (has_stream g.live g.waits) (stopped g g.next cause) (out_of_step g)
+    either (MovesOnlyOwn id es) (has_stream g.live g.waits) (stream_closed g g.next cause)
+    (out_of_step g)
     (closing_turn id es g g.next cause t)
     (record {
       same = t.same;
@@ -129,110 +130,112 @@ closed_turn id es g cause t =
 
 -- a flow may wait after a gap closed its stream, since it keeps its place
 awaiting_turn : (id : ℕ) (es : List Event) (g : Flow) (count : ℕ) →
-    has_stream g.live g.waits ≡ true → IsTurn id es g → IsTurn id es (awaiting g count)
-unfolding closed with_event behind
+    has_stream g.live g.waits ≡ true → MovesOnlyOwn id es g →
+    MovesOnlyOwn id es (awaiting_stream g count)
+unfolding closed with_event lives_behind
 awaiting_turn id es g count live t =
     let more = lives_more [] g.events (Closes g.id Gap) in
     let next : ℕ = onward g.next count in
-    subst (λ (c : Flow). IsTurn id es (record c { next = next; live = Some next; waits = true }))
-    (sym (cond-true (has_stream g.live g.waits) (stopped g g.next Gap) (out_of_step g) live))
+    subst (λ (c : Flow). MovesOnlyOwn id es (record c
+    { next = next; live = Some next; waits = true }))
+    (sym (cond-true (has_stream g.live g.waits) (stream_closed g g.next Gap) (out_of_step g) live))
     (record {
       same = t.same;
       own = λ e. subst (λ (xs : List ℕ). 0 < times id xs) (sym more)
           (t.own (and_parts (is_some g.live) (not g.waits) live).0);
       beside = λ j n. ap (times j) more ∙ t.beside j n;
-      order = subst (IsOrdered id (lives es)) (sym more) t.order;
+      order = subst (KeepsOrderBut id (lives es)) (sym more) t.order;
     })
 
 checked_turn : (id : ℕ) (es : List Event) (g : Flow) (r : Option ℕ) →
-    IsTurn id es g → IsTurn id es (checked g r)
-unfolding checked
+    MovesOnlyOwn id es g → MovesOnlyOwn id es (closed_at_fault g r)
+unfolding closed_at_fault
 checked_turn id es g None t = t
-checked_turn id es g (Some at) t = closing_turn id es g (number_after g at) Fault t
+checked_turn id es g (Some at) t = closing_turn id es g (number_after_octet g at) Fault t
 
 capture_turn : (id : ℕ) (es : List Event) (g : Flow) (e : CaptureEvent) →
-    IsTurn id es g → IsTurn id es (with_event g (OfCapture e))
-unfolding with_event behind
+    MovesOnlyOwn id es g → MovesOnlyOwn id es (with_event g (OfCapture e))
+unfolding with_event lives_behind
 capture_turn id es g e t =
     let more = lives_more [] g.events (OfCapture e) in
     record {
       same = t.same;
-      own = subst (λ (xs : List ℕ). IsTold (is_some g.live) (times id xs)) (sym more) t.own;
+      own = subst (λ (xs : List ℕ). IsToldIfLive (is_some g.live) (times id xs)) (sym more) t.own;
       beside = λ j n. ap (times j) more ∙ t.beside j n;
-      order = subst (IsOrdered id (lives es)) (sym more) t.order;
+      order = subst (KeepsOrderBut id (lives es)) (sym more) t.order;
     }
 
 delivered_turn : (F : Reader) (id : ℕ) (es : List Event) (g : Flow) (p : Payload) →
-    IsTurn id es g →
-    IsTurn id es (delivered F g p)
-unfolding delivered with_event behind
+    MovesOnlyOwn id es g →
+    MovesOnlyOwn id es (delivered F g p)
+unfolding delivered with_event lives_behind
 delivered_turn F id es g p t =
     let more = lives_more [] g.events (Delivers g.id p.octets) in
-    let d : Flow = handed g p in
-    let u : IsTurn id es d =
+    let d : Flow = delivered_unchecked g p in
+    let u : MovesOnlyOwn id es d =
     record {
       same = t.same;
-      own = subst (λ (xs : List ℕ). IsTold (is_some g.live) (times id xs)) (sym more) t.own;
+      own = subst (λ (xs : List ℕ). IsToldIfLive (is_some g.live) (times id xs)) (sym more) t.own;
       beside = λ j n. ap (times j) more ∙ t.beside j n;
-      order = subst (IsOrdered id (lives es)) (sym more) t.order;
+      order = subst (KeepsOrderBut id (lives es)) (sym more) t.order;
     } in
     checked_turn id es d (F.faulted d.events) u
 
 started_turn : (id : ℕ) (es : List Event) (g : Flow) (n : ℕ) → id < most_ids →
-    IsTurn id es g → IsTurn id es (started g n)
-unfolding with_event behind
+    MovesOnlyOwn id es g → MovesOnlyOwn id es (started g n)
+unfolding with_event lives_behind
 started_turn id es g n l t =
     let more = lives_more [] g.events (Begins g.id (start_at g n)) in
     record {
       same = t.same;
       own = λ e. subst (λ (xs : List ℕ). 0 < times id xs)
-          (sym (more ∙ ap (λ (k : ℕ). begun k (lives g.events)) t.same))
+          (sym (more ∙ ap (λ (k : ℕ). with_begun k (lives g.events)) t.same))
           (begun_own id (lives g.events) l);
       beside = λ j k. ap (times j) more ∙ begun_beside g.id j (lives g.events) (λ o. k (o ∙ t.same))
           ∙ t.beside j k;
-      order = subst (IsOrdered id (lives es))
-          (sym (more ∙ ap (λ (k : ℕ). begun k (lives g.events)) t.same))
+      order = subst (KeepsOrderBut id (lives es))
+          (sym (more ∙ ap (λ (k : ℕ). with_begun k (lives g.events)) t.same))
           (order_begun id (lives es) (lives g.events) l t.order);
     }
 
-resumed_turn : (id : ℕ) (es : List Event) (g : Flow) → id < most_ids → IsTurn id es g →
-    IsTurn id es (resumed g)
-resumed_turn id es g l t = either (IsTurn id es) g.waits (started g g.next) g
+resumed_turn : (id : ℕ) (es : List Event) (g : Flow) → id < most_ids → MovesOnlyOwn id es g →
+    MovesOnlyOwn id es (begun_if_awaited g)
+resumed_turn id es g l t = either (MovesOnlyOwn id es) g.waits (started g g.next) g
     (started_turn id es g g.next l t) t
 
 -- looking through a payload tells of no stream of another flow
 looked_turn : (F : Reader) (id : ℕ) (es : List Event) (g : Flow) (q : Payload)
-    (o : Option Tail) → id < most_ids → IsTurn id es g →
-    IsTurn id es (flow_looked F g q o)
+    (o : Option Tail) → id < most_ids → MovesOnlyOwn id es g →
+    MovesOnlyOwn id es (flow_looked F g q o)
 looked_turn F id es g q o l t =
-    looked_by F (IsTurn id es) (λ g p t. delivered_turn F id es g p t)
+    looked_by F (MovesOnlyOwn id es) (λ g p t. delivered_turn F id es g p t)
     (λ g n t. started_turn id es g n l t)
     (λ g u xs t. capture_turn id es (record g { tail = u }) (Passes xs)
     (record { same = t.same; own = t.own; beside = t.beside; order = t.order })) g q o t
 
 from_turn : (id : ℕ) (es : List Event) (g : Flow) (p : Payload) →
-    IsTurn id es g → IsTurn id es (told_from g p)
-unfolding told_from
+    MovesOnlyOwn id es g → MovesOnlyOwn id es (with_arrival_told g p)
+unfolding with_arrival_told
 from_turn id es g p t = capture_turn id es g (ComesFrom p.arrival) t
 
 taken_turn : (F : Reader) (id : ℕ) (es : List Event) (g : Flow) (p : Payload) →
     id < most_ids →
-    IsTurn id es g → IsTurn id es (taken F g p)
+    MovesOnlyOwn id es g → MovesOnlyOwn id es (taken F g p)
 unfolding taken
 taken_turn F id es g p l t =
-    let q : Payload = left g.next (is_some g.live) p in
-    let h : Flow = told_from g p in
-    let u : IsTurn id es h = from_turn id es g p t in
-    let d : Flow = delivered F (resumed h) q in
-    let o : Option Tail = tail_before g.tail q.number q.octets in
+    let q : Payload = without_old_octets g.next (is_some g.live) p in
+    let h : Flow = with_arrival_told g p in
+    let u : MovesOnlyOwn id es h = from_turn id es g p t in
+    let d : Flow = delivered F (begun_if_awaited h) q in
+    let o : Option Tail = tail_continued_by g.tail q.number q.octets in
     let b : Flow = flow_looked F h q o in
-    either (IsTurn id es) (nat_eq (length q.octets) 0) g (cond (is_some g.live) d b) t
-    (either (IsTurn id es) (is_some g.live) d b (delivered_turn F id es (resumed h) q
+    either (MovesOnlyOwn id es) (nat_eq (length q.octets) 0) g (cond (is_some g.live) d b) t
+    (either (MovesOnlyOwn id es) (is_some g.live) d b (delivered_turn F id es (begun_if_awaited h) q
     (resumed_turn id es h l u))
     (looked_turn F id es h q o l u))
 
 pub turn_keeps : (F : Reader) (id : ℕ) (es : List Event) → id < most_ids →
-    Keeps F (IsTurn id es)
+    StepsKeep F (MovesOnlyOwn id es)
 turn_keeps F id es l =
     record {
       takes = λ f i e d t. taken_turn F id es (record f { held = remove f.held i }) (at f i) l
@@ -244,48 +247,48 @@ turn_keeps F id es l =
 
 came_turn : (F : Reader) (id : ℕ) (es : List Event) (f : Flow) (p : Payload) →
     id < most_ids →
-    IsTurn id es f → IsTurn id es (payload_came F f p)
-unfolding payload_came holding
+    MovesOnlyOwn id es f → MovesOnlyOwn id es (payload_came F f p)
+unfolding payload_came with_held
 came_turn F id es f p l t =
-    let q : Payload = left f.next (is_some f.live) p in
-    let k : Keeps F (IsTurn id es) = turn_keeps F id es l in
+    let q : Payload = without_old_octets f.next (is_some f.live) p in
+    let k : StepsKeep F (MovesOnlyOwn id es) = turn_keeps F id es l in
     let h : Flow = record f { held = put q f.held } in
-    either (IsTurn id es) (nat_eq (length q.octets) 0
-    || has_as_much f.id q.number (length q.octets) f.held) f
-    (within_window F (length f.held + 1) (gone_on F h)) t
-    (window_keeps F (IsTurn id es) k (length f.held + 1) (gone_on F h)
-    (gone_on_keeps F (IsTurn id es) k h
+    either (MovesOnlyOwn id es) (nat_eq (length q.octets) 0
+    || holds_as_long f.id q.number (length q.octets) f.held) f
+    (within_window F (length f.held + 1) (gone_on_with_held F h)) t
+    (window_keeps F (MovesOnlyOwn id es) k (length f.held + 1) (gone_on_with_held F h)
+    (gone_on_keeps F (MovesOnlyOwn id es) k h
     (record { same = t.same; own = t.own; beside = t.beside; order = t.order })))
 
 fin_turn : (F : Reader) (id : ℕ) (es : List Event) (f : Flow) (n : ℕ) →
     id < most_ids →
-    IsTurn id es f → IsTurn id es (fin_came F f n)
+    MovesOnlyOwn id es f → MovesOnlyOwn id es (fin_came F f n)
 unfolding fin_came
 fin_turn F id es f n l t =
-    let k : Keeps F (IsTurn id es) = turn_keeps F id es l in
-    either (IsTurn id es) (is_some f.live && nat_eq (age f.next n) 0)
-    (gone_on F (record f { fin = Some n })) f
-    (gone_on_keeps F (IsTurn id es) k (record f { fin = Some n })
+    let k : StepsKeep F (MovesOnlyOwn id es) = turn_keeps F id es l in
+    either (MovesOnlyOwn id es) (is_some f.live && nat_eq (age f.next n) 0)
+    (gone_on_with_held F (record f { fin = Some n })) f
+    (gone_on_keeps F (MovesOnlyOwn id es) k (record f { fin = Some n })
     (record { same = t.same; own = t.own; beside = t.beside; order = t.order })) t
 
 pub step_turn : (F : Reader) (id : ℕ) (es : List Event) (f : Flow) (a : Arrival) →
     id < most_ids →
-    IsTurn id es f → IsTurn id es (step F f a)
+    MovesOnlyOwn id es f → MovesOnlyOwn id es (step F f a)
 unfolding step
 step_turn F id es f (Octets n octets arrival) l t = came_turn F id es f
     (payload f.id n octets arrival) l t
 step_turn F id es f (End n) l t = fin_turn F id es f n l t
 step_turn F id es f (Hears h) l t =
-    heard_keeps F (IsTurn id es) (turn_keeps F id es l) (length f.held) h f t
+    heard_keeps F (MovesOnlyOwn id es) (turn_keeps F id es l) (length f.held) h f t
 
 pub gap_turn : (F : Reader) (id : ℕ) (es : List Event) (f : Flow) →
-    id < most_ids → IsTurn id es f →
-    IsTurn id es (gap F f)
-gap_turn F id es f l t = gap_keeps F (IsTurn id es) (turn_keeps F id es l) f t
+    id < most_ids → MovesOnlyOwn id es f →
+    MovesOnlyOwn id es (with_gap F f)
+gap_turn F id es f l t = gap_keeps F (MovesOnlyOwn id es) (turn_keeps F id es l) f t
 
 pub first_turn : (F : Reader) (id n : ℕ) (octets : List ℕ) (arrival : origin.Arrival)
     (held : List Payload) (es : List Event) → id < most_ids →
-    IsTurn id es (first_payload F id n octets arrival held es)
+    MovesOnlyOwn id es (first_payload F id n octets arrival held es)
 unfolding first_payload
 first_turn F id n octets arrival held es l =
     came_turn F id es (fresh id n held es) (payload id n octets arrival) l
@@ -298,6 +301,6 @@ first_turn F id n octets arrival held es l =
 
 -- a flow has done nothing yet
 pub no_turn : (id : ℕ) (f : Flow) → f.id ≡ id →
-    IsTold (is_some f.live) (times id (lives f.events)) → IsTurn id f.events f
+    IsToldIfLive (is_some f.live) (times id (lives f.events)) → MovesOnlyOwn id f.events f
 no_turn id f same own =
     record { same = same; own = own; beside = λ j n. refl; order = λ a b s. inl s }

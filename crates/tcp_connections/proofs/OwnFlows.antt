@@ -10,13 +10,13 @@ use Rattle.tcp_flow.specs.declared.tail.Tail.{Tail}
 use Rattle.tcp_flow.specs.declared.flow.CloseCause.TheVariants.{Gap}
 use Rattle.tcp_waiting.specs.Numbers.{onward, age, is_to_come}
 use Rattle.tcp_waiting.specs.declared.arrival.Arrival as origin
-use Rattle.tcp_waiting.specs.Payload.{Payload, payload, no_payload, has_as_much, put, place_of, key_of}
+use Rattle.tcp_waiting.specs.Payload.{Payload, payload, no_payload, holds_as_long, put, place_of, key_of}
 use Rattle.tcp_waiting.proofs.Held.{all_at, all_insert, all_remove}
 use Rattle.tcp_waiting.proofs.Order.{first_within, first_own}
-use Rattle.tcp_flow.specs.Flow.{Flow, Event, Begins, Delivers, Closes, OfCapture, Reader, lives, out_of_step, resumed, awaiting, Arrival, Octets, End, Hears, left, with_event, delivered, looked_through, tail_before, told_from, taken, first_of, is_due, at, closed, holding, gone_on, within_window, payload_came, fin_came, gap, step, CaptureEvent, stopped, checked, handed, start_at, started}
-use Rattle.tcp_flow.proofs.Preserving.{Keeps, gone_on_keeps, window_keeps, heard_keeps, gap_keeps}
+use Rattle.tcp_flow.specs.Flow.{Flow, Event, Begins, Delivers, Closes, OfCapture, Reader, lives, out_of_step, begun_if_awaited, awaiting_stream, Arrival, Octets, End, Hears, without_old_octets, with_event, delivered, looked_through, tail_continued_by, with_arrival_told, taken, oldest_held, is_due, at, closed, with_held, gone_on_with_held, within_window, payload_came, fin_came, with_gap, step, CaptureEvent, stream_closed, closed_at_fault, delivered_unchecked, start_at, started}
+use Rattle.tcp_flow.proofs.Preserving.{StepsKeep, gone_on_keeps, window_keeps, heard_keeps, gap_keeps}
 use Rattle.tcp_flow.specs.Laws.{IsTailOf}
-use Rattle.tcp_flow.proofs.Tails.{Looks, looked_keeps, in_vain}
+use Rattle.tcp_flow.proofs.Tails.{LookingKeeps, looked_keeps, looked_in_vain}
 use Rattle.tcp_flow.proofs.Truth.{reached, closed_idle, resumed_lives, resumed_next}
 use Rattle.tcp_connections.specs.Owned.{IsPartOf, Standing, Unopened, Idle, Live, is_of, behind, MayCome, standing, AllMayCome}
 
@@ -38,20 +38,20 @@ come_more segments id s (x ∷ es) e h m =
     (h.0, come_more segments id (cond (is_of id x) (behind s x) s) es e h.1 m)
 
 -- what an id stands for after events, all of which might come
-pub record Stands (segments : List Segment) (id : ℕ) (es : List Event) (s : Standing)
+pub record StandsAfter (segments : List Segment) (id : ℕ) (events : List Event) (now : Standing)
     : Type 0 where
-  pub come : AllMayCome segments id Unopened es
-  pub is : standing id Unopened es ≡ s
+  pub come : AllMayCome segments id Unopened events
+  pub is : standing id Unopened events ≡ now
 
 -- one more event of the id's flow
 pub own_more : (segments : List Segment) (id : ℕ) (es : List Event) (s : Standing) (e : Event) →
-    is_of id e ≡ true → MayCome segments s e → Stands segments id es s →
-    Stands segments id (es ++ e ∷ []) (behind s e)
+    is_of id e ≡ true → MayCome segments s e → StandsAfter segments id es s →
+    StandsAfter segments id (es ++ e ∷ []) (behind s e)
 own_more segments id es s e own may t = search (arith, come_more, standing_more, cond-true)
 
 -- one more event of another flow
 pub other_more : (segments : List Segment) (id : ℕ) (es : List Event) (s : Standing) (e : Event) →
-    is_of id e ≡ false → Stands segments id es s → Stands segments id (es ++ e ∷ []) s
+    is_of id e ≡ false → StandsAfter segments id es s → StandsAfter segments id (es ++ e ∷ []) s
 other_more segments id es s e other t = search (
   arith,
   come_more,
@@ -72,17 +72,18 @@ either P false x y p q = q
 
 part_left : (segments : List Segment) (o : Endpoints) (next : ℕ) (live : Bool) (p : Payload) →
     IsPartOf segments o p.number p.octets →
-    IsPartOf segments o (left next live p).number (left next live p).octets
-unfolding left
+    IsPartOf segments o (without_old_octets next live p).number
+    (without_old_octets next live p).octets
+unfolding without_old_octets
 part_left segments o next live p h = search (arith, either, nat_lt, not, part_more)
 
-flow_left : (next : ℕ) (live : Bool) (p : Payload) → (left next live p).flow ≡ p.flow
-unfolding left
+flow_left : (next : ℕ) (live : Bool) (p : Payload) → (without_old_octets next live p).flow ≡ p.flow
+unfolding without_old_octets
 flow_left next live p = search (arith, either, nat_lt, not)
 
 due_left : (next : ℕ) (live : Bool) (p : Payload) → next < 2 ^ 32 → live ≡ true →
-    is_to_come next p.number ≡ false → (left next live p).number ≡ next
-unfolding left
+    is_to_come next p.number ≡ false → (without_old_octets next live p).number ≡ next
+unfolding without_old_octets
 due_left next live p small l h = search (
   arith,
   cond-false,
@@ -99,15 +100,17 @@ some_endpoints : (x y : Endpoints) → Some x ≡ Some y → x ≡ y
 some_endpoints x y e = search (arith, unwrap_or)
 
 -- a held payload, of whichever flow, is part of a segment of its flow
-abbrev pub IsPartOfOwn : List Segment → (ℕ → Option Endpoints) → Payload → Type 0
+abbrev pub IsPartOfOwn : (segments : List Segment) (owners : ℕ → Option Endpoints)
+    (payload : Payload) → Type 0
 IsPartOfOwn segments owners p =
     (o : Endpoints) → owners p.flow ≡ Some o → IsPartOf segments o p.number p.octets
 
-abbrev pub stand_of : Endpoints → Bool → ℕ → Standing
-stand_of o live next = cond live (Live o next) (Idle o)
+abbrev pub standing_of : (endpoints : Endpoints) (live : Bool) (next : ℕ) → Standing
+standing_of o live next = cond live (Live o next) (Idle o)
 
 -- a tail consists of parts of segments of the flow
-abbrev pub HasOwnTail : List Segment → Endpoints → Option Tail → Type 0
+abbrev pub HasOwnTail : (segments : List Segment) (endpoints : Endpoints) (tail : Option Tail) →
+    Type 0
 HasOwnTail segments o tail = (t : Tail) → tail ≡ Some t → IsTailOf (IsPartOf segments o) t
 
 part_small : (segments : List Segment) (o : Endpoints) (n : ℕ) (xs : List ℕ) →
@@ -116,12 +119,13 @@ part_small segments o n xs h = search (arith)
 
 -- a flow between these endpoints
 pub record IsOwn (segments : List Segment) (owners : ℕ → Option Endpoints) (id : ℕ)
-    (o : Endpoints) (f : Flow) : Type 0 where
-  pub same : f.id ≡ id
-  pub next : f.next < 2 ^ 32
-  pub held : AllByRecursion (IsPartOfOwn segments owners) f.held
-  pub tail : HasOwnTail segments o f.tail
-  pub stands : Stands segments id f.events (stand_of o (lives f.live f.waits) f.next)
+    (endpoints : Endpoints) (flow : Flow) : Type 0 where
+  pub same : flow.id ≡ id
+  pub next : flow.next < 2 ^ 32
+  pub held : AllByRecursion (IsPartOfOwn segments owners) flow.held
+  pub tail : HasOwnTail segments endpoints flow.tail
+  pub stands : StandsAfter segments id flow.events
+      (standing_of endpoints (lives flow.live flow.waits) flow.next)
 
 pub all_push : (P : Payload → Type 0) (ps : List Payload) (p : Payload) → AllByRecursion P ps →
     P p → AllByRecursion P (ps ++ p ∷ [])
@@ -131,11 +135,11 @@ all_push P (q ∷ ps) p h x = (h.0, all_push P ps p h.1 x)
 module _ (segments : List Segment) (owners : ℕ → Option Endpoints) (id : ℕ) (o : Endpoints)
     (own : owners id ≡ Some o) where
   live_stands : (g : Flow) → lives g.live g.waits ≡ true → IsOwn segments owners id o g →
-      Stands segments id g.events (Live o g.next)
+      StandsAfter segments id g.events (Live o g.next)
   live_stands g live t = search (arith, cond-true)
 
   closing_own : (g : Flow) (n : ℕ) (cause : CloseCause) → lives g.live g.waits ≡ true →
-      IsOwn segments owners id o g → IsOwn segments owners id o (stopped g n cause)
+      IsOwn segments owners id o g → IsOwn segments owners id o (stream_closed g n cause)
   unfolding with_event
   closing_own g n cause live t = record {
     same = t.same;
@@ -147,8 +151,8 @@ module _ (segments : List Segment) (owners : ℕ → Option Endpoints) (id : ℕ
   }
 
   checked_own : (g : Flow) (r : Option ℕ) → lives g.live g.waits ≡ true →
-      IsOwn segments owners id o g → IsOwn segments owners id o (checked g r)
-  unfolding checked
+      IsOwn segments owners id o g → IsOwn segments owners id o (closed_at_fault g r)
+  unfolding closed_at_fault
   checked_own g None live t = t
   checked_own g (Some at) live t = search (arith, closing_own)
 
@@ -169,7 +173,7 @@ module _ (segments : List Segment) (owners : ℕ → Option Endpoints) (id : ℕ
 
   -- the id of a flow that waits stands for one without a live stream
   awaiting_own : (g : Flow) (count : ℕ) → IsOwn segments owners id o g →
-      IsOwn segments owners id o (awaiting g count)
+      IsOwn segments owners id o (awaiting_stream g count)
   awaiting_own g count t =
       let c : IsOwn segments owners id o (closed g Gap) = closed_own g Gap t in
       let small : onward g.next count < 2 ^ 32 = omega arith in
@@ -178,23 +182,24 @@ module _ (segments : List Segment) (owners : ℕ → Option Endpoints) (id : ℕ
         next = small;
         held = c.held;
         tail = c.tail;
-        stands = subst (Stands segments id (closed g Gap).events)
+        stands = subst (StandsAfter segments id (closed g Gap).events)
             (cond-false (lives (closed g Gap).live (closed g Gap).waits)
             (Live o (closed g Gap).next) (Idle o) (closed_idle g Gap)) c.stands;
       }
 
   delivered_own : (F : Reader) (g : Flow) (p : Payload) (n : ℕ) → g.id ≡ id →
       AllByRecursion (IsPartOfOwn segments owners) g.held → HasOwnTail segments o g.tail →
-      Stands segments id g.events (Live o n)
+      StandsAfter segments id g.events (Live o n)
       → IsPartOf segments o n p.octets → p.number ≡ n → lives g.live g.waits ≡ true
       → IsOwn segments owners id o (delivered F g p)
   unfolding delivered with_event
   delivered_own F g p n same held tail stands part e live =
       let next : ℕ = onward p.number (length p.octets) in
       let small : next < 2 ^ 32 = omega arith in
-      let d : Flow = handed g p in
-      let there : Stands segments id d.events (Live o next) =
-      subst (λ (k : ℕ). Stands segments id d.events (Live o (onward k (length p.octets)))) (sym e)
+      let d : Flow = delivered_unchecked g p in
+      let there : StandsAfter segments id d.events (Live o next) =
+      subst (λ (k : ℕ). StandsAfter segments id d.events (Live o (onward k (length p.octets))))
+      (sym e)
       (own_more segments id g.events (Live o n) (Delivers g.id p.octets) (eq-eqb g.id id same) part
       stands) in
       checked_own d (F.faulted d.events) live
@@ -203,7 +208,7 @@ module _ (segments : List Segment) (owners : ℕ → Option Endpoints) (id : ℕ
         next = small;
         held = held;
         tail = tail;
-        stands = subst (Stands segments id d.events)
+        stands = subst (StandsAfter segments id d.events)
             (sym (cond-true (lives g.live g.waits) (Live o next) (Idle o) live)) there;
       })
 
@@ -216,8 +221,8 @@ module _ (segments : List Segment) (owners : ℕ → Option Endpoints) (id : ℕ
       IsOwn segments owners id o g → IsOwn segments owners id o (started g n)
   unfolding with_event
   started_own g n small dead t =
-      let idle : Stands segments id g.events (Idle o) =
-      subst (Stands segments id g.events)
+      let idle : StandsAfter segments id g.events (Idle o) =
+      subst (StandsAfter segments id g.events)
       (cond-false (lives g.live g.waits) (Live o g.next) (Idle o) dead) t.stands in
       record {
         same = t.same;
@@ -229,10 +234,10 @@ module _ (segments : List Segment) (owners : ℕ → Option Endpoints) (id : ℕ
       }
 
   passed_own : (g : Flow) (t : Option Tail) (xs : List ℕ) → HasOwnTail segments o t →
-      IsOwn segments owners id o g → IsOwn segments owners id o (in_vain g t xs)
+      IsOwn segments owners id o g → IsOwn segments owners id o (looked_in_vain g t xs)
   passed_own g t xs tail h = search (arith, capture_own)
 
-  looks_own : (F : Reader) → Looks F (IsPartOf segments o) (IsOwn segments owners id o)
+  looks_own : (F : Reader) → LookingKeeps F (IsPartOf segments o) (IsOwn segments owners id o)
   looks_own F = record {
     delivers = λ g p t live due part. delivered_live F g p t live due part;
     starts = λ g n small dead t. started_own g n small
@@ -243,7 +248,8 @@ module _ (segments : List Segment) (owners : ℕ → Option Endpoints) (id : ℕ
     small = λ n xs h. part_small segments o n xs h;
   }
 
-  resumed_own : (g : Flow) → IsOwn segments owners id o g → IsOwn segments owners id o (resumed g)
+  resumed_own : (g : Flow) → IsOwn segments owners id o g →
+      IsOwn segments owners id o (begun_if_awaited g)
   resumed_own g t = search (
     arith,
     cases_Bool,
@@ -257,24 +263,24 @@ module _ (segments : List Segment) (owners : ℕ → Option Endpoints) (id : ℕ
   )
 
   from_own : (g : Flow) (p : Payload) → IsOwn segments owners id o g →
-      IsOwn segments owners id o (told_from g p)
-  unfolding told_from
+      IsOwn segments owners id o (with_arrival_told g p)
+  unfolding with_arrival_told
   from_own g p t = search (arith, capture_own)
 
   taken_own : (F : Reader) (f : Flow) (p : Payload) → IsOwn segments owners id o f →
       IsPartOf segments o p.number p.octets →
       (is_some f.live ≡ true → is_to_come f.next p.number ≡ false) →
       IsOwn segments owners id o (taken F f p)
-  unfolding taken told_from with_event
+  unfolding taken with_arrival_told with_event
   taken_own F f p t part reach =
-      let q : Payload = left f.next (is_some f.live) p in
+      let q : Payload = without_old_octets f.next (is_some f.live) p in
       let has : IsPartOf segments o q.number q.octets =
       part_left segments o f.next (is_some f.live) p part in
-      let g : Flow = told_from f p in
+      let g : Flow = with_arrival_told f p in
       let u : IsOwn segments owners id o g = from_own f p t in
-      let r : Flow = resumed g in
+      let r : Flow = begun_if_awaited g in
       let d : Flow = delivered F r q in
-      let b : Flow = looked_through F g q (tail_before f.tail q.number q.octets) in
+      let b : Flow = looked_through F g q (tail_continued_by f.tail q.number q.octets) in
       let all : IsOwn segments owners id o (cond (is_some f.live) d b) =
       elim (cases_Bool (is_some f.live)) [
         | inl e ↦
@@ -289,8 +295,8 @@ module _ (segments : List Segment) (owners : ℕ → Option Endpoints) (id : ℕ
       either (IsOwn segments owners id o) (nat_eq (length q.octets) 0) f (cond (is_some f.live) d b)
       t all
 
-  own_keeps : (F : Reader) → Keeps F (IsOwn segments owners id o)
-  unfolding first_of is_due at
+  own_keeps : (F : Reader) → StepsKeep F (IsOwn segments owners id o)
+  unfolding oldest_held is_due at
   own_keeps F =
       record {
         takes =
@@ -329,10 +335,10 @@ module _ (segments : List Segment) (owners : ℕ → Option Endpoints) (id : ℕ
   pub came_own : (F : Reader) (f : Flow) (p : Payload) → p.flow ≡ id →
       IsPartOf segments o p.number p.octets → IsOwn segments owners id o f →
       IsOwn segments owners id o (payload_came F f p)
-  unfolding payload_came holding
+  unfolding payload_came with_held
   came_own F f p mine part t =
-      let q : Payload = left f.next (is_some f.live) p in
-      let k : Keeps F (IsOwn segments owners id o) = own_keeps F in
+      let q : Payload = without_old_octets f.next (is_some f.live) p in
+      let k : StepsKeep F (IsOwn segments owners id o) = own_keeps F in
       let h : Flow = record f { held = put q f.held } in
       let of : owners q.flow ≡ Some o =
       ap owners (flow_left f.next (is_some f.live) p ∙ mine) ∙ own in
@@ -348,18 +354,18 @@ module _ (segments : List Segment) (owners : ℕ → Option Endpoints) (id : ℕ
         stands = t.stands;
       } in
       either (IsOwn segments owners id o) (nat_eq (length q.octets) 0
-      || has_as_much f.id q.number (length q.octets) f.held) f
-      (within_window F (length f.held + 1) (gone_on F h)) t
-      (window_keeps F (IsOwn segments owners id o) k (length f.held + 1) (gone_on F h)
+      || holds_as_long f.id q.number (length q.octets) f.held) f
+      (within_window F (length f.held + 1) (gone_on_with_held F h)) t
+      (window_keeps F (IsOwn segments owners id o) k (length f.held + 1) (gone_on_with_held F h)
       (gone_on_keeps F (IsOwn segments owners id o) k h v))
 
   fin_own : (F : Reader) (f : Flow) (n : ℕ) → IsOwn segments owners id o f →
       IsOwn segments owners id o (fin_came F f n)
   unfolding fin_came
   fin_own F f n t =
-      let k : Keeps F (IsOwn segments owners id o) = own_keeps F in
+      let k : StepsKeep F (IsOwn segments owners id o) = own_keeps F in
       either (IsOwn segments owners id o) (is_some f.live && nat_eq (age f.next n) 0)
-      (gone_on F (record f { fin = Some n })) f
+      (gone_on_with_held F (record f { fin = Some n })) f
       (gone_on_keeps F (IsOwn segments owners id o) k (record f { fin = Some n })
       (k.fins f (Some n) t)) t
 
@@ -376,5 +382,5 @@ module _ (segments : List Segment) (owners : ℕ → Option Endpoints) (id : ℕ
       (own_keeps F) (length f.held) h f t
 
   pub gap_own : (F : Reader) (f : Flow) → IsOwn segments owners id o f →
-      IsOwn segments owners id o (gap F f)
+      IsOwn segments owners id o (with_gap F f)
   gap_own F f t = gap_keeps F (IsOwn segments owners id o) (own_keeps F) f t

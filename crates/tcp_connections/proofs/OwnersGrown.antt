@@ -8,7 +8,7 @@ use Rattle.tcp_flow.proofs.Tails.{tail_map}
 use Rattle.tcp_flow.specs.Flow.{Event, Opens, Begins, Delivers, Closes, OfCapture, CaptureEvent}
 use Rattle.tcp_connections.specs.Connections.{State, flow_at, none_known}
 use Rattle.tcp_connections.specs.Owned.{IsPartOf, Standing, Unopened, Idle, Live, is_of, behind, MayCome, standing, AllMayCome}
-use Rattle.tcp_connections.proofs.Owners.{all_map, stands_for, owner_of, StandsAs, Owns}
+use Rattle.tcp_connections.proofs.Owners.{all_map, standing_after, owner_of, IsStandingOf, IsOwned}
 use Rattle.tcp_connections.proofs.OwnFlows.{IsPartOfOwn}
 use Rattle.tcp_connections.proofs.Times.{none_there}
 
@@ -19,11 +19,11 @@ unopened o n e = true≢false (ap is_unopened e)
     is_unopened Unopened = true
     is_unopened s = false
 
-pub none_owns : (ports : List ℕ) (blocks most : ℕ) → Owns [] (none_known ports blocks most [])
+pub none_owns : (ports : List ℕ) (blocks most : ℕ) → IsOwned [] (none_known ports blocks most [])
 unfolding AllMayCome standing
 none_owns ports blocks most = record {
   come = λ id. tt;
-  flows = λ id. subst (StandsAs [] Unopened) (sym (none_there (2 * most) id)) unopened;
+  flows = λ id. subst (IsStandingOf [] Unopened) (sym (none_there (2 * most) id)) unopened;
   held = tt;
   known = tt;
   beyond = λ id many. refl;
@@ -79,7 +79,7 @@ all_grown segments s id x (e ∷ es) h = (
 )
 
 stands_grown : (segments : List Segment) (s : Segment) (x : Standing) (f : Option FlowState) →
-    StandsAs segments x f → StandsAs (segments ++ s ∷ []) x f
+    IsStandingOf segments x f → IsStandingOf (segments ++ s ∷ []) x f
 stands_grown segments s x None h = h
 stands_grown segments s x (Some f) h = (
   h.0,
@@ -90,11 +90,11 @@ stands_grown segments s x (Some f) h = (
   ),
 )
 
-pub owns_grown : (segments : List Segment) (s : Segment) (w : State) → Owns segments w →
-    Owns (segments ++ s ∷ []) w
+pub owns_grown : (segments : List Segment) (s : Segment) (w : State) → IsOwned segments w →
+    IsOwned (segments ++ s ∷ []) w
 owns_grown segments s w h = record {
   come = λ id. all_grown segments s id Unopened w.events (h.come id);
-  flows = λ id. stands_grown segments s (stands_for w.events id) (flow_at w id) (h.flows id);
+  flows = λ id. stands_grown segments s (standing_after w.events id) (flow_at w id) (h.flows id);
   held = all_map (IsPartOfOwn segments (owner_of w.events))
       (IsPartOfOwn (segments ++ s ∷ []) (owner_of w.events)) w.held
       (λ p part o e. part_grown segments s o p.number p.octets (part o e)) h.held;

@@ -16,16 +16,16 @@ use Rattle.tcp_streams.specs.declared.pair.EndpointPair.{EndpointPair}
 use Rattle.tcp_streams.specs.declared.pair.Side.{Side}
 use Rattle.tcp_streams.specs.declared.pair.Side.TheVariants.{FromLesser, FromGreater}
 use Rattle.tcp_streams.specs.Pairs.{compare_pairs, pair_of, flow_id, flow_from}
-use Rattle.tcp_connections.specs.Connections.{State, flow_at, flow_forgotten, index_of, index_among, next_slot, made_known, with_capture_event}
+use Rattle.tcp_connections.specs.Connections.{State, flow_at, flow_forgotten, index_of, insertion_index, next_slot, made_known, with_capture_event}
 use Rattle.tcp_connections.specs.Owned.{Standing, Unopened, Idle, Live, owner, MayCome, AllMayCome}
 use Rattle.tcp_connections.specs.State.{times}
 use Rattle.tcp_connections.proofs.Forgotten.{forgot_either}
-use Rattle.tcp_connections.proofs.OwnFlows.{either, Stands, own_more, other_more, IsPartOfOwn, IsOwn, closed_own}
-use Rattle.tcp_connections.proofs.Owners.{others_stand, stands_for, owner_of, IsQuiet, StandsAs, AreTheirs, Owns, held_same, theirs_same, owner_stand, own_before, stands_now, AreNumbered}
+use Rattle.tcp_connections.proofs.OwnFlows.{either, StandsAfter, own_more, other_more, IsPartOfOwn, IsOwn, closed_own}
+use Rattle.tcp_connections.proofs.Owners.{others_stand, standing_after, owner_of, HasNoLiveStream, IsStandingOf, IdsStandForPairs, IsOwned, held_same, theirs_same, owner_stand, own_before, stands_now, AreNumbered}
 use Rattle.tcp_connections.proofs.SamePairs.{same_pair_of}
 use Rattle.tcp_connections.proofs.Sound.{some_within}
 
-abbrev is_idle : Standing → Bool
+abbrev is_idle : (standing : Standing) → Bool
 is_idle (Idle x) = true
 is_idle s = false
 
@@ -41,13 +41,13 @@ all_others P id [] h = tt
 all_others P id (p ∷ ps) h = search (arith, either, nat_eq, all_others P id ps h.1)
 
 pub forgot_owns : (segments : List Segment) (w : State) (id : ℕ) (cause : CloseCause) →
-    AreNumbered w → Owns segments w → Owns segments (flow_forgotten w id cause)
+    AreNumbered w → IsOwned segments w → IsOwned segments (flow_forgotten w id cause)
 forgot_owns segments w id cause numbers h =
-    forgot_either (Owns segments) w id cause (λ e. h)
+    forgot_either (IsOwned segments) w id cause (λ e. h)
     (λ s e.
     let f : Flow = state s w.held w.events in
     let c : Flow = closed f cause in
-    let st = subst (StandsAs segments (stands_for w.events id)) e (h.flows id) in
+    let st = subst (IsStandingOf segments (standing_after w.events id)) e (h.flows id) in
     let o : Endpoints = st.0 in
     let own : owner_of w.events id ≡ Some o =
     ap owner st.1.0 ∙ owner_stand o (has_stream s.live s.waits) s.next in
@@ -55,12 +55,13 @@ forgot_owns segments w id cause numbers h =
     let t : IsOwn segments (owner_of w.events) id o c =
     closed_own segments (owner_of w.events) id o own f cause
     (own_before segments w id s o h same (numbers id s e).1 st.1.0 st.1.1) in
-    let idle : stands_for c.events id ≡ Idle o =
+    let idle : standing_after c.events id ≡ Idle o =
     t.stands.is
     ∙ cond-false (has_stream c.live c.waits) (Live o c.next) (Idle o) (closed_idle f cause) in
-    let others : (j : ℕ) → (j ≡ id → ⊥) → Stands segments j c.events (stands_for w.events j) =
-    λ j n. (closed_told (λ es. Stands segments j es (stands_for w.events j)) id
-    (others_stand segments j id (stands_for w.events j) n) f cause
+    let others : (j : ℕ) → (j ≡ id → ⊥) → StandsAfter segments j c.events
+    (standing_after w.events j) =
+    λ j n. (closed_told (λ es. StandsAfter segments j es (standing_after w.events j)) id
+    (others_stand segments j id (standing_after w.events j) n) f cause
     (record { same = same; told = stands_now segments w j h })).told in
     let there : (j : ℕ) → owner_of c.events j ≡ owner_of w.events j =
     λ j.
@@ -79,13 +80,14 @@ forgot_owns segments w id cause numbers h =
       flows =
           λ j.
           elim (cases_eq j id) [
-            | inl y ↦ subst (StandsAs segments (stands_for c.events j))
+            | inl y ↦ subst (IsStandingOf segments (standing_after c.events j))
                 (sym (ap (λ (k : ℕ). get_or (set w.flows id None) k None) y
                 ∙ get_or-set_same w.flows id None None (some_within w.flows id s e)))
-                (λ x n l. quiet_idle o x n (sym (ap (stands_for c.events) y ∙ idle) ∙ l))
-            | inr n ↦ subst (StandsAs segments (stands_for c.events j))
+                (λ x n l. quiet_idle o x n (sym (ap (standing_after c.events) y ∙ idle) ∙ l))
+            | inr n ↦ subst (IsStandingOf segments (standing_after c.events j))
                 (sym (get_or-set_other w.flows id j None None n))
-                (subst (λ (x : Standing). StandsAs segments x (flow_at w j)) (sym (others j n).is)
+                (subst (λ (x : Standing). IsStandingOf segments x (flow_at w j))
+                (sym (others j n).is)
                 (h.flows j))
           ];
       held = held_same segments (owner_of w.events) (owner_of c.events)
@@ -97,14 +99,14 @@ forgot_owns segments w id cause numbers h =
 
 -- after one of the known connections was forgotten
 pub theirs_without : (owners : ℕ → Option Endpoints) (ps : List EndpointPair) (rs : List ℕ)
-    (i : ℕ) → AreTheirs owners ps rs → AreTheirs owners (remove ps i) (remove rs i)
+    (i : ℕ) → IdsStandForPairs owners ps rs → IdsStandForPairs owners (remove ps i) (remove rs i)
 theirs_without owners [] rs i h = none (remove rs i)
   where
-    none : (xs : List ℕ) → AreTheirs owners (remove [] i) xs
+    none : (xs : List ℕ) → IdsStandForPairs owners (remove [] i) xs
     none xs = search (arith)
 theirs_without owners (p ∷ ps) [] zero h = none ps
   where
-    none : (qs : List EndpointPair) → AreTheirs owners qs []
+    none : (qs : List EndpointPair) → IdsStandForPairs owners qs []
     none [] = tt
     none (q ∷ qs) = tt
 theirs_without owners (p ∷ ps) [] (suc i) h = tt
@@ -117,16 +119,16 @@ theirs_without owners (p ∷ ps) (r ∷ rs) (suc i) h = search (
 
 -- ---- The capture.
 
-pub told_owns : (segments : List Segment) (w : State) (event : CaptureEvent) → Owns segments w →
-    Owns segments (with_capture_event w event)
+pub told_owns : (segments : List Segment) (w : State) (event : CaptureEvent) → IsOwned segments w →
+    IsOwned segments (with_capture_event w event)
 told_owns segments w event h =
     let events : List Event = w.events ++ OfCapture event ∷ [] in
-    let all : (j : ℕ) → Stands segments j events (stands_for w.events j) =
-    λ j. other_more segments j w.events (stands_for w.events j) (OfCapture event) refl
+    let all : (j : ℕ) → StandsAfter segments j events (standing_after w.events j) =
+    λ j. other_more segments j w.events (standing_after w.events j) (OfCapture event) refl
     (stands_now segments w j h) in
     record {
       come = λ j. (all j).come;
-      flows = λ j. subst (λ (s : Standing). StandsAs segments s (flow_at w j)) (sym (all j).is)
+      flows = λ j. subst (λ (s : Standing). IsStandingOf segments s (flow_at w j)) (sym (all j).is)
           (h.flows j);
       held = held_same segments (owner_of w.events) (owner_of events) w.held
           (λ j. ap owner (all j).is) h.held;
@@ -137,7 +139,7 @@ told_owns segments w event h =
 
 -- ---- An id opens.
 
-may_open : (segments : List Segment) (s : Standing) (id : ℕ) (o : Endpoints) → IsQuiet s →
+may_open : (segments : List Segment) (s : Standing) (id : ℕ) (o : Endpoints) → HasNoLiveStream s →
     MayCome segments s (Opens id o)
 may_open segments Unopened id o q = tt
 may_open segments (Idle x) id o q = tt
@@ -157,32 +159,32 @@ all_beside P Q id (p ∷ ps) none f h = search (
 )
 
 -- what is true apart from which connections are known
-pub record OwnsFlows (segments : List Segment) (kept : List (Option FlowState))
+pub record AreFlowsOwned (segments : List Segment) (kept : List (Option FlowState))
     (waiting : List Payload) (events : List Event) : Type 0 where
   pub come : (id : ℕ) → AllMayCome segments id Unopened events
-  pub flows : (id : ℕ) → StandsAs segments (stands_for events id) (get_or kept id None)
+  pub flows : (id : ℕ) → IsStandingOf segments (standing_after events id) (get_or kept id None)
   pub held : AllByRecursion (IsPartOfOwn segments (owner_of events)) waiting
 
 -- an id opens, and the others stand for what they did
-pub record HasOpened (events events' : List Event) (id : ℕ) (o : Endpoints) : Type 0 where
-  pub own : owner_of events' id ≡ Some o
-  pub others : (j : ℕ) → (j ≡ id → ⊥) → owner_of events' j ≡ owner_of events j
+pub record HasOpened (before after : List Event) (id : ℕ) (endpoints : Endpoints) : Type 0 where
+  pub own : owner_of after id ≡ Some endpoints
+  pub others : (j : ℕ) → (j ≡ id → ⊥) → owner_of after j ≡ owner_of before j
 
 pub opens_owns : (segments : List Segment) (flows : List (Option FlowState)) (held : List Payload)
     (events : List Event) (id : ℕ) (o : Endpoints) → get_or flows id None ≡ None →
-    count_of id held ≡ 0 → OwnsFlows segments flows held events
-    → OwnsFlows segments flows held (events ++ Opens id o ∷ [])
+    count_of id held ≡ 0 → AreFlowsOwned segments flows held events
+    → AreFlowsOwned segments flows held (events ++ Opens id o ∷ [])
     × HasOpened events (events ++ Opens id o ∷ []) id o
 opens_owns segments flows held events id o e none h =
     let all : List Event = events ++ Opens id o ∷ [] in
-    let quiet : IsQuiet (stands_for events id) =
-    subst (StandsAs segments (stands_for events id)) e (h.flows id) in
-    let here : Stands segments id all (Idle o) =
-    own_more segments id events (stands_for events id) (Opens id o) (eq-eqb id id refl)
-    (may_open segments (stands_for events id) id o quiet)
+    let quiet : HasNoLiveStream (standing_after events id) =
+    subst (IsStandingOf segments (standing_after events id)) e (h.flows id) in
+    let here : StandsAfter segments id all (Idle o) =
+    own_more segments id events (standing_after events id) (Opens id o) (eq-eqb id id refl)
+    (may_open segments (standing_after events id) id o quiet)
     (record { come = h.come id; is = refl }) in
-    let there : (j : ℕ) → (j ≡ id → ⊥) → Stands segments j all (stands_for events j) =
-    λ j n. other_more segments j events (stands_for events j) (Opens id o)
+    let there : (j : ℕ) → (j ≡ id → ⊥) → StandsAfter segments j all (standing_after events j) =
+    λ j n. other_more segments j events (standing_after events j) (Opens id o)
     (ne_eqb id j (λ x. n (sym x))) (record { come = h.come j; is = refl }) in (
       record {
         come =
@@ -194,10 +196,10 @@ opens_owns segments flows held events id o e none h =
         flows =
             λ j.
             elim (cases_eq j id) [
-              | inl y ↦ subst (StandsAs segments (stands_for all j))
+              | inl y ↦ subst (IsStandingOf segments (standing_after all j))
                   (sym (ap (λ (k : ℕ). get_or flows k None) y ∙ e))
-                  (λ x n l. quiet_idle o x n (sym (ap (stands_for all) y ∙ here.is) ∙ l))
-              | inr n ↦ subst (λ (s : Standing). StandsAs segments s (get_or flows j None))
+                  (λ x n l. quiet_idle o x n (sym (ap (standing_after all) y ∙ here.is) ∙ l))
+              | inr n ↦ subst (λ (s : Standing). IsStandingOf segments s (get_or flows j None))
                   (sym (there j n).is) (h.flows j)
             ];
         held = all_beside (IsPartOfOwn segments (owner_of events))
@@ -211,7 +213,7 @@ opens_owns segments flows held events id o e none h =
 theirs_kept : (owners owners' : ℕ → Option Endpoints) (slot : ℕ) (ps : List EndpointPair)
     (rs : List ℕ) → times slot rs ≡ 0
     → ((j : ℕ) → (j ≡ 2 * slot → ⊥) → (j ≡ 2 * slot + 1 → ⊥) → owners' j ≡ owners j)
-    → AreTheirs owners ps rs → AreTheirs owners' ps rs
+    → IdsStandForPairs owners ps rs → IdsStandForPairs owners' ps rs
 unfolding times
 theirs_kept owners owners' slot [] rs none same h = tt
 theirs_kept owners owners' slot (q ∷ ps) [] none same h = tt
@@ -229,8 +231,8 @@ pub theirs_with : (owners owners' : ℕ → Option Endpoints) (p : EndpointPair)
     → owners' (2 * slot) ≡ Some (flow_from p FromLesser) →
     owners' (2 * slot + 1) ≡ Some (flow_from p FromGreater)
     → ((j : ℕ) → (j ≡ 2 * slot → ⊥) → (j ≡ 2 * slot + 1 → ⊥) → owners' j ≡ owners j)
-    → length ps ≡ length rs → AreTheirs owners ps rs →
-    AreTheirs owners' (insert ps i p) (insert rs i slot)
+    → length ps ≡ length rs → IdsStandForPairs owners ps rs →
+    IdsStandForPairs owners' (insert ps i p) (insert rs i slot)
 unfolding times
 theirs_with owners owners' p slot [] [] zero none a b same l h = (a, b, tt)
 theirs_with owners owners' p slot [] [] (suc i) none a b same l h = (a, b, tt)
@@ -258,7 +260,7 @@ equal_of Greater e = absurd (true≢false (sym e))
 
 pub theirs_at : (owners : ℕ → Option Endpoints) (p : EndpointPair) (ps : List EndpointPair)
     (rs : List ℕ) (i : ℕ) (side : Side) → length ps ≡ length rs → index_of p ps ≡ Some i →
-    AreTheirs owners ps rs → owners (flow_id (get_or rs i 0) side) ≡ Some (flow_from p side)
+    IdsStandForPairs owners ps rs → owners (flow_id (get_or rs i 0) side) ≡ Some (flow_from p side)
 unfolding index_of
 theirs_at owners p [] rs i side l e h = search (arith, true≢false, is_some)
 theirs_at owners p (q ∷ ps) [] i side l e h = absurd (omega (arith, l))
@@ -297,18 +299,19 @@ flow_of_pair flow = search (arith)
 
 -- ---- A connection becomes known.
 
-pub record MadeKnown (segments : List Segment) (w : State) (p : EndpointPair) (slot : ℕ)
+pub record IsOwnedMadeKnown (segments : List Segment) (state : State) (pair : EndpointPair)
+    (slot : ℕ)
     : Type 0 where
-  pub owns : Owns segments (made_known w p)
-  pub own : (side : Side) → owner_of (made_known w p).events (flow_id slot side)
-      ≡ Some (flow_from p side)
+  pub owns : IsOwned segments (made_known state pair)
+  pub own : (side : Side) → owner_of (made_known state pair).events (flow_id slot side)
+      ≡ Some (flow_from pair side)
 
 pub made_owns : (segments : List Segment) (w : State) (p : EndpointPair) →
     next_slot w.free < length w.lasts → flow_at w (2 * next_slot w.free) ≡ None → flow_at w
     (2 * next_slot w.free + 1) ≡ None
     → count_of (2 * next_slot w.free) w.held ≡ 0 → count_of (2 * next_slot w.free + 1) w.held ≡ 0
-    → times (next_slot w.free) w.slots ≡ 0 → length w.known ≡ length w.slots → Owns segments w →
-    MadeKnown segments w p (next_slot w.free)
+    → times (next_slot w.free) w.slots ≡ 0 → length w.known ≡ length w.slots → IsOwned segments w →
+    IsOwnedMadeKnown segments w p (next_slot w.free)
 unfolding made_known
 made_owns segments w p below lesser greater none none' apart l h =
     let slot : ℕ = next_slot w.free in
@@ -327,7 +330,7 @@ made_owns segments w p below lesser greater none none' apart l h =
         flows = second.0.flows;
         held = second.0.held;
         known = theirs_with (owner_of w.events) (owner_of two) p slot w.known w.slots
-            (index_among p w.known) apart own second.1.own
+            (insertion_index p w.known) apart own second.1.own
             (λ j m n. second.1.others j n ∙ first.1.others j m) l h.known;
         beyond =
             λ j many.

@@ -2,9 +2,9 @@
 use Rattle.std.proofs.Common.{◌≡◌, ℕ, zero, suc, ◌+◌, ◌*◌, ◌^◌, ◌<◌, ◌≤◌, Bool, true, false, cond, nat_eq, nat_lt, ◌&&◌, ◌||◌, List, [], ◌∷◌, length, get_or, set, replicate, Option, Some, None, is_some, refl, sym, ap, ◌∙◌, arith, inl, inr, true≢false}
 use Rattle.std.proofs.lemmas.Bool.{cases_eq, cases_lt, lt-ltb, le-ltb, eq-eqb, ne_eqb, or_cases, or_left, or_right, or_from, and_from, and_left, and_right, and_parts}
 use Rattle.tcp_flow.specs.declared.flow.FlowState.{FlowState}
-use Rattle.tcp_slots.specs.Ranks.{IsFirst, rank_at}
+use Rattle.tcp_slots.specs.Ranks.{IsUniqueLeast, rank_at}
 use Rattle.tcp_connections.specs.Connections.{has_live}
-use Rattle.tcp_connections.specs.Ranks.{AreAtMost, IsBeforeAll, rank_among, class_among, has_come_among}
+use Rattle.tcp_connections.specs.Ranks.{AreAtMost, IsBeforeAll, rank_among, room_class_among, has_come_among}
 
 -- ---- The order.
 
@@ -32,7 +32,7 @@ ranks_before a b m n k l =
 
 -- the slot of the least noted rank makes room before all others, if that is its true rank
 pub first_before : (slots : ℕ) (nodes : List ℕ) (flows : List (Option FlowState))
-    (came : List Bool) (lasts : List ℕ) (slot : ℕ) → IsFirst slots nodes slot →
+    (came : List Bool) (lasts : List ℕ) (slot : ℕ) → IsUniqueLeast slots nodes slot →
     AreAtMost slots nodes flows came lasts →
     rank_at slots nodes slot ≡ rank_among flows came lasts slot → length lasts ≡ slots →
     ((k : ℕ) → get_or lasts k 0 < 2 ^ 64) → IsBeforeAll flows came lasts slot
@@ -44,7 +44,7 @@ first_before slots nodes flows came lasts slot h most own many small = record {
       let up = most other within in
       let less : rank_among flows came lasts slot < rank_among flows came lasts other =
       omega (arith, noted, up, own) in
-      sym (ranks_before (class_among flows came slot) (class_among flows came other)
+      sym (ranks_before (room_class_among flows came slot) (room_class_among flows came other)
       (get_or lasts slot 0) (get_or lasts other 0) (small slot) (small other))
       ∙ lt-ltb (rank_among flows came lasts slot) (rank_among flows came lasts other) less;
 }
@@ -73,7 +73,7 @@ class_up true true true true h k = omega arith
 class_rises : (flows flows' : List (Option FlowState)) (came came' : List Bool) (slot : ℕ)
     → ((k : ℕ) → has_live (get_or flows k None) ≡ true → has_live (get_or flows' k None) ≡ true)
     → ((k : ℕ) → has_come_among flows came k ≡ true → has_come_among flows' came' k ≡ true)
-    → class_among flows came slot ≤ class_among flows' came' slot
+    → room_class_among flows came slot ≤ room_class_among flows' came' slot
 class_rises flows flows' came came' slot live come =
     let a : ℕ = 2 * slot in
     let b : ℕ = 2 * slot + 1 in

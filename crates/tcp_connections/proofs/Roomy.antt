@@ -6,25 +6,25 @@ use Rattle.tcp_segment.specs.Segments.{Segment}
 use Rattle.tcp_flow.specs.declared.flow.CloseCause.{CloseCause}
 use Rattle.tcp_flow.specs.declared.flow.CloseCause.TheVariants.{Reset, Syn, Room}
 use Rattle.tcp_flow.specs.declared.flow.FlowState.{FlowState}
-use Rattle.tcp_flow.specs.Flow.{Event, Opens, Begins, Delivers, Closes, OfCapture, flow_of, Reader, closed, gap}
+use Rattle.tcp_flow.specs.Flow.{Event, Opens, Begins, Delivers, Closes, OfCapture, flow_of, Reader, closed, with_gap}
 use Rattle.tcp_flow.specs.State.{state}
 use Rattle.tcp_streams.specs.Lives.{lives, elder_side}
 use Rattle.tcp_streams.specs.Pairs.{pair_of, opposite, flow_id}
 use Rattle.tcp_streams.specs.declared.pair.EndpointPair.{EndpointPair}
 use Rattle.tcp_streams.specs.declared.pair.Side.{Side}
-use Rattle.tcp_connections.specs.Connections.{State, with_segment, flow_at, with_flow, gapped, closed_at, slot_at, shown_by_age, ended_by, eldest, with_room, next_slot, made_known, index_of, flow_of_side, syn_at, syn_kept, is_kept, is_anew, is_reset, is_first, looked_through, first_number, began, fin_taken, acknowledgement_heard, payload_taken, reset_taken, unknown_taken, known_taken, step, after, gaps_from, ended}
+use Rattle.tcp_connections.specs.Connections.{State, with_segment, flow_at, with_flow, gapped, closed_at, slot_at, shown_by_age, ended_by, eldest, with_room, next_slot, made_known, index_of, flow_of_side, syn_at, syn_kept, is_syn_to_keep, begins_anew, is_reset, is_first_payload, looked_through, first_number, began, fin_taken, acknowledgement_heard, payload_taken, reset_taken, unknown_taken, known_taken, step, after, gaps_from, ended}
 use Rattle.tcp_connections.specs.Gapless.{HaveSlots}
 use Rattle.tcp_connections.specs.Owned.{Standing, Unopened, Idle, Live, owner, is_of, behind, MayCome, standing, AllMayCome}
 use Rattle.tcp_connections.proofs.Cases.{room_there, room_made, step_unknown, step_kept, step_anew, step_known}
 use Rattle.tcp_connections.proofs.Kept.{began_kept, looked_kept, heard_kept, acknowledgement_kept, payload_kept, fin_kept}
-use Rattle.tcp_connections.proofs.Owners.{Owns}
+use Rattle.tcp_connections.proofs.Owners.{IsOwned}
 use Rattle.tcp_connections.proofs.Repeated.{gaps_keep, closes_keep}
 use Rattle.tcp_connections.proofs.Shown.{shown_lasts}
 
 -- ---- There are as many slots as before.
 
 -- how many slots there are
-abbrev pub slots_in : State → ℕ
+abbrev pub slots_in : (state : State) → ℕ
 slots_in w = length w.lasts
 
 room_slots : (F : Reader) (w : State) → slots_in (with_room F w) ≡ slots_in w
@@ -56,7 +56,7 @@ unknown_slots F w s =
     let m : State = made_known v (pair_of s.flow).0 in
     let id : ℕ = flow_id (next_slot v.free) (pair_of s.flow).1 in
     let b : State = began F m id (first_number s) s.payload in
-    either (slots_in w) (is_first w.ports s) (fin_taken F b id s) (looked_through w s)
+    either (slots_in w) (is_first_payload w.ports s) (fin_taken F b id s) (looked_through w s)
     (ap length (fin_kept F b id s).lasts
     ∙ ap length (began_kept F m id (first_number s) s.payload).lasts
     ∙ made_slots v (pair_of s.flow).0 ∙ room_slots F w) (ap length (looked_kept w s).lasts)
@@ -101,10 +101,10 @@ step_slots F w s = by (index_of (pair_of s.flow).0 w.known) refl
         let v : State = record w { segments = w.segments + 1 } in
         let side : Side = (pair_of s.flow).1 in
         let id : ℕ = flow_id (slot_at w index) side in
-        elim (cases_Bool (is_kept (flow_of_side w index side) s)) [
+        elim (cases_Bool (is_syn_to_keep (flow_of_side w index side) s)) [
           | inl k ↦ ap slots_in (step_kept F w s index e k) ∙ kept_slots v (slot_at w index) id s
           | inr k ↦
-              elim (cases_Bool (is_anew (syn_at w (slot_at w index)) id s)) [
+              elim (cases_Bool (begins_anew (syn_at w (slot_at w index)) id s)) [
                 | inl a ↦ ap slots_in (step_anew F w s index e k a)
                     ∙ unknown_slots F (ended_by F v index side Syn) s
                     ∙ ap length (shown_lasts F v index (slot_at v index) side side Syn)
@@ -123,7 +123,7 @@ unfolding gapped with_flow
 gapped_slots F w id =
     elim (flow_at w id) as (λ (o : Option FlowState). slots_in (elim o [
       | None ↦ w
-      | Some s ↦ with_flow w id (gap F (state s w.held w.events))
+      | Some s ↦ with_flow w id (with_gap F (state s w.held w.events))
     ]) ≡ slots_in w) [ None ↦ refl | Some s ↦ refl ]
 
 closed_slots : (w : State) (id : ℕ) (cause : CloseCause) →
@@ -211,7 +211,7 @@ in_slots most (e ∷ es) none = (
   in_slots most es (λ id many. (none id many).1),
 )
 
-pub owned_slots : (segments : List Segment) (most : ℕ) (w : State) → Owns segments w →
+pub owned_slots : (segments : List Segment) (most : ℕ) (w : State) → IsOwned segments w →
     slots_in w ≡ most → HaveSlots most w.events
 owned_slots segments most w h many =
     in_slots most w.events (λ id beyond. none_of segments id w.events (h.come id)

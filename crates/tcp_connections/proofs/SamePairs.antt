@@ -10,7 +10,7 @@ use Rattle.tcp_segment.specs.contracts.endpoint.AddressOrd.TheImpl as address_or
 use Rattle.tcp_streams.specs.declared.pair.EndpointPair.{EndpointPair}
 use Rattle.tcp_streams.specs.Pairs.{compare_pairs, compare_endpoints}
 
-abbrev compare_addresses : Address → Address → Ordering
+abbrev compare_addresses : (address : Address) → Address → Ordering
 compare_addresses = (address_order.ghosts).cmp
 
 same_address : (a b : Address) → compare_addresses a b ≡ Equal → a ≡ b

@@ -10,7 +10,7 @@ use Rattle.std.proofs.lemmas.Bool.{cases_eq, cases_lt, cases_Bool, cond-true, co
 use Rattle.tcp_streams.specs.declared.pair.EndpointPair.{EndpointPair}
 use Rattle.tcp_streams.specs.contracts.pair.EndpointPairOrd.TheImpl.Laws.{total-law}
 use Rattle.tcp_streams.specs.Pairs.{compare_pairs as C}
-use Rattle.tcp_connections.specs.Connections.{index_of, index_among}
+use Rattle.tcp_connections.specs.Connections.{index_of, insertion_index}
 
 order : IsTotalOrder C
 order = total-law
@@ -80,17 +80,18 @@ none_same p (x ∷ xs) h (suc k) d l e = none_same p xs (none_under (is_eq (C x 
     none_under false (Some i) h = absurd (true≢false (ap is_some h))
 
 -- the index of a pair is where the lesser elements end
-pub parted : (p : EndpointPair) (xs : List EndpointPair) (i : ℕ) → i ≤ length xs →
+pub closed_for_gap : (p : EndpointPair) (xs : List EndpointPair) (i : ℕ) → i ≤ length xs →
     ((k : ℕ) (d : EndpointPair) → k < i → C (get_or xs k d) p ≡ Less) →
     ((k : ℕ) (d : EndpointPair) → i ≤ k → k < length xs → C (get_or xs k d) p ≡ Greater) →
-    index_among p xs ≡ i
-unfolding index_among
-parted p [] i l below above = omega (arith, l)
-parted p (x ∷ xs) zero l below above = let e : C x p ≡ Greater =
+    insertion_index p xs ≡ i
+unfolding insertion_index
+closed_for_gap p [] i l below above = omega (arith, l)
+closed_for_gap p (x ∷ xs) zero l below above = let e : C x p ≡ Greater =
     above 0 p (omega arith) (omega arith) in rw e refl
-parted p (x ∷ xs) (suc i) l below above =
+closed_for_gap p (x ∷ xs) (suc i) l below above =
     let e : C x p ≡ Less = below 0 p (omega arith) in
-    rw e (ap suc (parted p xs i (omega (arith, l)) (λ k d m. below (suc k) d (omega (arith, m)))
+    rw e (ap suc (closed_for_gap p xs i (omega (arith, l))
+    (λ k d m. below (suc k) d (omega (arith, m)))
     (λ k d m n. above (suc k) d (omega (arith, m)) (omega (arith, n)))))
 
 low : (a b : Ordering) → (b ≡ Less → a ≡ Less) → (b ≡ Equal → a ≡ Less) →
@@ -122,13 +123,13 @@ searched p xs i s h l = found p xs i s l h
 
 pub unfound : (p : EndpointPair) (xs : List EndpointPair) (i : ℕ) → IsStrictlySortedBy C xs →
     IsBinarySearchResult (λ y. C y p) xs (Err i) → IsSearchInRange (Err i) (length xs) →
-    (index_of p xs ≡ None) × (index_among p xs ≡ i)
+    (index_of p xs ≡ None) × (insertion_index p xs ≡ i)
 unfound p xs i s h l =
     let parts = h (rises p xs s) in (
       absent p xs (λ k d m e. ⊎_elim (λ b. absurd
           (apart Less (sym (parts.0 k d (omega arith) b) ∙ e) (λ z. z)))
           (λ a. apart_greater (sym (parts.1 k d a m) ∙ e)) (below_or k i)),
-      parted p xs i l (λ k d m. parts.0 k d (omega arith) m) (λ k d m n. parts.1 k d m n),
+      closed_for_gap p xs i l (λ k d m. parts.0 k d (omega arith) m) (λ k d m n. parts.1 k d m n),
     )
   where
     apart : (r : Ordering) → Less ≡ Equal → (⊥ → ⊥) → ⊥
@@ -174,14 +175,14 @@ turned p x e = order.antisymm p x ∙ ap ordering_reverse e
 
 -- after a pair that isn't known was inserted at its index
 pub sorted_insert : (p : EndpointPair) (xs : List EndpointPair) → IsStrictlySortedBy C xs →
-    index_of p xs ≡ None → IsStrictlySortedBy C (insert xs (index_among p xs) p)
-unfolding IsStrictlySortedBy index_among
+    index_of p xs ≡ None → IsStrictlySortedBy C (insert xs (insertion_index p xs) p)
+unfolding IsStrictlySortedBy insertion_index
 sorted_insert p [] h n = (tt, tt)
 sorted_insert p (x ∷ xs) h n =
     elim (C x p) as (λ (r : Ordering). C x p ≡ r →
-    IsStrictlySortedBy C (insert (x ∷ xs) (cond (is_lt r) (suc (index_among p xs)) 0) p)) [
+    IsStrictlySortedBy C (insert (x ∷ xs) (cond (is_lt r) (suc (insertion_index p xs)) 0) p)) [
       | Less ↦ (λ e. (
-        all_insert (λ y. C x y ≡ Less) xs (index_among p xs) p h.0 e,
+        all_insert (λ y. C x y ≡ Less) xs (insertion_index p xs) p h.0 e,
         sorted_insert p xs h.1 (absent p xs (λ k d l s.
             none_same p (x ∷ xs) n (suc k) d (omega (arith, l)) s)),
       ))

@@ -13,7 +13,7 @@ use Rattle.tcp_flow.specs.declared.flow.CloseCause.{CloseCause}
 use Rattle.tcp_flow.specs.declared.flow.CloseCause.TheVariants.{Room}
 use Rattle.tcp_flow.specs.declared.flow.FlowState.{FlowState}
 use Rattle.tcp_flow.specs.Flow.{Flow, Event, CaptureEvent, Opens, OfCapture, lives as has_stream, Reader, Arrival, Octets, End, Hears, payload_came, closed, step as flow_step, held_by_others}
-use Rattle.tcp_flow.specs.Laws.{AllFollow, OwnMayFollow, AllArePartsOf, IsGapless, due_of}
+use Rattle.tcp_flow.specs.Laws.{EventsMayFollow, OwnEventMayFollow, AllArePartsOf, IsGapless, due_of}
 use Rattle.tcp_flow.specs.State.{state}
 use Rattle.tcp_flow.proofs.Truth.{runs_more, closed_idle, came_true, fin_true, heard_true, true_keeps}
 use Rattle.tcp_flow.proofs.Told.{same_flow, closed_told}
@@ -27,51 +27,52 @@ use Rattle.tcp_connections.specs.Gapless.{IsOfSegment}
 use Rattle.tcp_connections.specs.Owned.{IsPartOf}
 use Rattle.tcp_connections.specs.State.{IsSound, times}
 use Rattle.tcp_connections.proofs.Cases.{forgot_some, room_there, room_made}
-use Rattle.tcp_connections.proofs.Changes.{opened, came_none}
-use Rattle.tcp_connections.proofs.Following.{due_in, Follow, others_kept, flow_before, Goes, arrived_both, began_both, follow_grown, gapped_follow, gapped_sound}
+use Rattle.tcp_connections.proofs.Changes.{with_both_opened, with_none_come}
+use Rattle.tcp_connections.proofs.Following.{due_in, FlowsFollow, others_kept, flow_before, StepKeepsGapless, arrived_both, began_both, follow_grown, gapped_follow, gapped_sound}
 use Rattle.tcp_connections.proofs.Forgotten.{forgot_either, both_forgotten, forgotten_sound}
-use Rattle.tcp_connections.proofs.Owners.{owner_of, Owns, arrived_owns, began_owns, gapped_owns}
-use Rattle.tcp_connections.proofs.OwnersKnown.{MadeKnown, told_owns, forgot_owns, theirs_without, made_owns}
+use Rattle.tcp_connections.proofs.Owners.{owner_of, IsOwned, arrived_owns, began_owns, gapped_owns}
+use Rattle.tcp_connections.proofs.OwnersKnown.{IsOwnedMadeKnown, told_owns, forgot_owns, theirs_without, made_owns}
 use Rattle.tcp_connections.proofs.OwnFlows.{either, all_push}
 use Rattle.tcp_connections.proofs.Repeated.{relieved_keep}
 use Rattle.tcp_connections.proofs.Shown.{shown_kept, shown_keeps}
-use Rattle.tcp_connections.proofs.Sound.{IsApart, some_none, some_within, slot_below, sound_seen, forgot_sound, known_sound}
+use Rattle.tcp_connections.proofs.Sound.{IsOfNoFreeSlot, some_none, some_within, slot_below, sound_seen, forgot_sound, known_sound}
 use Rattle.tcp_connections.proofs.Unknown.{eldest_within, next_free, next_below}
 
 -- ---- What is true of a state after these segments.
 
-pub record At (segments : List Segment) (w : State) : Type 0 where
-  pub sound : IsSound w
+pub record IsSoundAfter (segments : List Segment) (state : State) : Type 0 where
+  pub sound : IsSound state
   pub payloads : List Payload
   pub came : AllByRecursion (IsOfSegment segments) payloads
-  pub follow : Follow payloads w
-  pub owns : Owns segments w
+  pub follow : FlowsFollow payloads state
+  pub owns : IsOwned segments state
 
-unfoldable pub IsIn : List Segment → Segment → Type 0
-IsIn segments s = (k : ℕ) × (slice_get segments k ≡ Some s)
+unfoldable pub IsAmongSegments : (segments : List Segment) (segment : Segment) → Type 0
+IsAmongSegments segments s = (k : ℕ) × (slice_get segments k ≡ Some s)
 
-abbrev is_octets : Arrival → Bool
+abbrev is_octets : (arrival : Arrival) → Bool
 is_octets (Octets n octets arrival) = true
 is_octets (End n) = false
 is_octets (Hears h) = false
 
 -- a segment's payload is one of its flow
-own_part : (segments : List Segment) (w : State) (id : ℕ) (s : Segment) → IsIn segments s →
+own_part : (segments : List Segment) (w : State) (id : ℕ) (s : Segment) →
+    IsAmongSegments segments s →
     owner_of w.events id ≡ Some s.flow → (o : Endpoints) → owner_of w.events id ≡ Some o → (n : ℕ)
     (octets : List ℕ) (arrival : origin.Arrival) →
     Octets (first_number s) s.payload w.arrival ≡ Octets n octets arrival →
     IsPartOf segments o n octets
-unfolding IsIn
+unfolding IsAmongSegments
 own_part segments w id s among own o is n octets arrival e = search (arith, unwrap_or)
 
 pub fin_at : (segments : List Segment) (F : Reader) (w : State) (id : ℕ) (s : Segment) →
-    At segments w → At segments (fin_taken F w id s)
-unfolding fin_taken flow_step Goes
+    IsSoundAfter segments w → IsSoundAfter segments (fin_taken F w id s)
+unfolding fin_taken flow_step StepKeepsGapless
 fin_at segments F w id s h =
     let n : ℕ = number_behind s in
     let both = arrived_both h.payloads h.payloads F w id (End n) h.sound h.follow h.follow
     (λ f own g. fin_true F h.payloads f n g) in
-    either (At segments) s.fin (arrived F w id (End n)) w
+    either (IsSoundAfter segments) s.fin (arrived F w id (End n)) w
     (record {
       sound = both.0;
       payloads = h.payloads;
@@ -82,8 +83,9 @@ fin_at segments F w id s h =
     }) h
 
 pub heard_at : (segments : List Segment) (F : Reader) (w : State) (id : ℕ) (acknowledged : Option ℕ)
-    (answers : Bool) → At segments w → At segments (heard F w id acknowledged answers)
-unfolding heard flow_step Goes
+    (answers : Bool) → IsSoundAfter segments w →
+    IsSoundAfter segments (heard F w id acknowledged answers)
+unfolding heard flow_step StepKeepsGapless
 heard_at segments F w id acknowledged answers h =
     let packet : Heard =
     record { acknowledged = acknowledged; answers = answers; arrival = w.arrival } in
@@ -104,15 +106,17 @@ with_payload payloads id s arrival =
     payloads ++ payload id (first_number s) s.payload arrival ∷ []
 
 payload_came_of : (segments : List Segment) (payloads : List Payload) (id : ℕ) (s : Segment)
-    (arrival : origin.Arrival) → IsIn segments s → AllByRecursion (IsOfSegment segments) payloads
+    (arrival : origin.Arrival) → IsAmongSegments segments s →
+    AllByRecursion (IsOfSegment segments) payloads
     → AllByRecursion (IsOfSegment segments) (with_payload payloads id s arrival)
-unfolding IsIn with_payload
+unfolding IsAmongSegments with_payload
 payload_came_of segments payloads id s arrival among came = search (arith, all_push)
 
 pub first_at : (segments : List Segment) (F : Reader) (w : State) (id : ℕ) (s : Segment) →
-    IsIn segments s → owner_of w.events id ≡ Some s.flow → At segments w → flow_at w id ≡ None →
-    id < length w.flows → IsApart w id
-    → At segments (began F w id (first_number s) s.payload)
+    IsAmongSegments segments s → owner_of w.events id ≡ Some s.flow → IsSoundAfter segments w →
+    flow_at w id ≡ None →
+    id < length w.flows → IsOfNoFreeSlot w id
+    → IsSoundAfter segments (began F w id (first_number s) s.payload)
 unfolding with_payload
 first_at segments F w id s among own h e within apart =
     let n : ℕ = first_number s in
@@ -130,9 +134,10 @@ first_at segments F w id s among own h e within apart =
     }
 
 later_at : (segments : List Segment) (F : Reader) (w : State) (id : ℕ) (s : Segment) →
-    IsIn segments s → owner_of w.events id ≡ Some s.flow → At segments w → At segments
+    IsAmongSegments segments s → owner_of w.events id ≡ Some s.flow → IsSoundAfter segments w →
+    IsSoundAfter segments
     (arrived F w id (Octets (first_number s) s.payload w.arrival))
-unfolding with_payload flow_step Goes
+unfolding with_payload flow_step StepKeepsGapless
 later_at segments F w id s among own h =
     let n : ℕ = first_number s in
     let small : n < 2 ^ 32 = omega arith in
@@ -155,8 +160,9 @@ later_at segments F w id s among own h =
     }
 
 -- the listener is told of the capture
-pub capture_at : (segments : List Segment) (w : State) (event : CaptureEvent) → At segments w →
-    At segments (with_capture_event w event)
+pub capture_at : (segments : List Segment) (w : State) (event : CaptureEvent) →
+    IsSoundAfter segments w →
+    IsSoundAfter segments (with_capture_event w event)
 capture_at segments w event h =
     let events : List Event = w.events ++ OfCapture event ∷ [] in
     record {
@@ -179,13 +185,13 @@ capture_at segments w event h =
     }
 
 -- after octets in which no stream begins
-pub looked_at : (segments : List Segment) (w : State) (s : Segment) → At segments w →
-    At segments (looked_through w s)
+pub looked_at : (segments : List Segment) (w : State) (s : Segment) → IsSoundAfter segments w →
+    IsSoundAfter segments (looked_through w s)
 unfolding looked_through
 looked_at segments w s h = search (arith, either, capture_at)
 
-gapped_at : (segments : List Segment) (F : Reader) (w : State) (id : ℕ) → At segments w →
-    At segments (gapped F w id)
+gapped_at : (segments : List Segment) (F : Reader) (w : State) (id : ℕ) → IsSoundAfter segments w →
+    IsSoundAfter segments (gapped F w id)
 gapped_at segments F w id h =
     record {
       sound = gapped_sound F w id h.payloads h.sound h.follow;
@@ -195,14 +201,15 @@ gapped_at segments F w id h =
       owns = gapped_owns segments F w id h.follow.own h.owns;
     }
 
-pooled_at : (segments : List Segment) (F : Reader) (w : State) → At segments w →
-    At segments (within_pool F w)
+pooled_at : (segments : List Segment) (F : Reader) (w : State) → IsSoundAfter segments w →
+    IsSoundAfter segments (within_pool F w)
 pooled_at segments F w h =
-    relieved_keep F (At segments) (gapped_at segments F) (length w.held) w h
+    relieved_keep F (IsSoundAfter segments) (gapped_at segments F) (length w.held) w h
 
 pub payload_at : (segments : List Segment) (F : Reader) (w : State) (id : ℕ) (s : Segment) →
-    IsIn segments s → owner_of w.events id ≡ Some s.flow → At segments w → id < length w.flows →
-    IsApart w id → At segments (payload_taken F w id s)
+    IsAmongSegments segments s → owner_of w.events id ≡ Some s.flow → IsSoundAfter segments w →
+    id < length w.flows →
+    IsOfNoFreeSlot w id → IsSoundAfter segments (payload_taken F w id s)
 unfolding payload_taken
 payload_at segments F w id s among own h within apart = search (
   arith,
@@ -223,9 +230,9 @@ all_others payloads id [] h = tt
 all_others payloads id (p ∷ ps) h = search (arith, either, nat_eq, all_others payloads id ps h.1)
 
 flow_forgotten_at : (segments : List Segment) (w : State) (id : ℕ) (cause : CloseCause) →
-    At segments w → At segments (flow_forgotten w id cause)
+    IsSoundAfter segments w → IsSoundAfter segments (flow_forgotten w id cause)
 flow_forgotten_at segments w id cause h =
-    forgot_either (At segments) w id cause (λ e. h)
+    forgot_either (IsSoundAfter segments) w id cause (λ e. h)
     (λ s e.
     let f : Flow = state s w.held w.events in
     let c : Flow = closed f cause in
@@ -236,10 +243,10 @@ flow_forgotten_at segments w id cause h =
     (flow_before h.payloads w id s h.follow e) in
     let same : c.id ≡ id = (closed_told (λ es. Unit {0}) id (λ es event of x. tt) f cause
     (record { same = own; told = tt })).same in
-    let over : AllFollow h.payloads id None c.events None =
-    subst (AllFollow h.payloads id None c.events)
+    let over : EventsMayFollow h.payloads id None c.events None =
+    subst (EventsMayFollow h.payloads id None c.events)
     (cond-false (has_stream c.live c.waits) (Some c.next) None (closed_idle f cause))
-    (subst (λ (n : ℕ). AllFollow h.payloads n None c.events (due_of c)) same g.events) in
+    (subst (λ (n : ℕ). EventsMayFollow h.payloads n None c.events (due_of c)) same g.events) in
     record {
       sound = forgot_sound w id c.events h.sound within;
       payloads = h.payloads;
@@ -259,14 +266,16 @@ flow_forgotten_at segments w id cause h =
                 elim (cases_eq j id) [
                   | inl y ↦
                       subst (λ (o : Option FlowState).
-                      AllFollow h.payloads j None c.events (due_in o))
+                      EventsMayFollow h.payloads j None c.events (due_in o))
                       (sym (gone w id j within y))
-                      (subst (λ (n : ℕ). AllFollow h.payloads n None c.events None) (sym y) over)
+                      (subst (λ (n : ℕ). EventsMayFollow h.payloads n None c.events None)
+                      (sym y) over)
                   | inr n ↦
                       subst (λ (o : Option FlowState).
-                      AllFollow h.payloads j None c.events (due_in o))
+                      EventsMayFollow h.payloads j None c.events (due_in o))
                       (sym (get_or-set_other w.flows id j None None n))
-                      (closed_told (λ es. AllFollow h.payloads j None es (due_in (flow_at w j))) id
+                      (closed_told (λ es. EventsMayFollow h.payloads j None es
+                      (due_in (flow_at w j))) id
                       (others_kept h.payloads id j (due_in (flow_at w j)) n) f cause
                       (record { same = own; told = h.follow.events j })).told
                 ];
@@ -280,7 +289,7 @@ flow_forgotten_at segments w id cause h =
                 ];
             few = omega (arith, h.follow.few, length-set w.flows id None);
           };
-      owns = subst (Owns segments) (forgot_some w id cause s e)
+      owns = subst (IsOwned segments) (forgot_some w id cause s e)
           (forgot_owns segments w id cause h.follow.own h.owns);
     })
   where
@@ -294,8 +303,8 @@ id_within w slot FromLesser h l = omega (arith, l, h.flows)
 id_within w slot FromGreater h l = omega (arith, l, h.flows)
 
 pub forgotten_at : (segments : List Segment) (w : State) (index : ℕ) (side : Side)
-    (cause : CloseCause) → index < length w.known → At segments w →
-    At segments (forgotten w index side cause)
+    (cause : CloseCause) → index < length w.known → IsSoundAfter segments w →
+    IsSoundAfter segments (forgotten w index side cause)
 unfolding forgotten
 forgotten_at segments w index side cause l h =
     let slot : ℕ = slot_at w index in
@@ -327,28 +336,28 @@ forgotten_at segments w index side cause l h =
 
 -- after what a connection holds was shown
 pub shown_at : (segments : List Segment) (F : Reader) (w : State) (index slot : ℕ)
-    (side other : Side) (cause : CloseCause) → index < length w.known → At segments w →
-    At segments (forgotten (shown F w slot side) index other cause)
+    (side other : Side) (cause : CloseCause) → index < length w.known → IsSoundAfter segments w →
+    IsSoundAfter segments (forgotten (shown F w slot side) index other cause)
 shown_at segments F w index slot side other cause l h =
     forgotten_at segments (shown F w slot side) index other cause
     (omega (arith, l, ap length (shown_kept F w slot side).known))
-    (shown_keeps F (At segments) (gapped_at segments F) w slot side h)
+    (shown_keeps F (IsSoundAfter segments) (gapped_at segments F) w slot side h)
 
 pub reset_at : (segments : List Segment) (F : Reader) (w : State) (index : ℕ) (side : Side)
-    (s : Segment) → index < length w.known → At segments w →
-    At segments (reset_taken F w index side s)
+    (s : Segment) → index < length w.known → IsSoundAfter segments w →
+    IsSoundAfter segments (reset_taken F w index side s)
 unfolding reset_taken
 reset_at segments F w index side s l h = search (arith, either, shown_at)
 
-pub with_room_at : (segments : List Segment) (F : Reader) (w : State) → At segments w →
-    At segments (with_room F w)
+pub with_room_at : (segments : List Segment) (F : Reader) (w : State) → IsSoundAfter segments w →
+    IsSoundAfter segments (with_room F w)
 with_room_at segments F w h =
     elim (cases_lt (length w.known) (length w.lasts)) [
-      | inl l ↦ subst (At segments) (sym (room_there F w l)) h
+      | inl l ↦ subst (IsSoundAfter segments) (sym (room_there F w l)) h
       | inr g ↦
           (let index : ℕ = eldest w (length w.known) in
           let slot : ℕ = slot_at w index in
-          subst (At segments) (sym (room_made F w g))
+          subst (IsSoundAfter segments) (sym (room_made F w g))
           (shown_at segments F w index slot (elder_side slot (lives w.events))
           (elder_side slot (lives (shown_by_age F w slot).events)) Room
           (eldest_within w (length w.known) (omega (arith, g, h.sound.some))) h))
@@ -369,9 +378,9 @@ slots_parted free l = search (arith, last_of)
 
 opens_more : (payloads : List Payload) (w : State) (es : List Event) (id other : ℕ)
     (endpoints : Endpoints) → flow_at w id ≡ None
-    → AllFollow payloads other None es (due_in (flow_at w other)) →
-    AllFollow payloads other None (es ++ Opens id endpoints ∷ []) (due_in (flow_at w other))
-unfolding OwnMayFollow
+    → EventsMayFollow payloads other None es (due_in (flow_at w other)) →
+    EventsMayFollow payloads other None (es ++ Opens id endpoints ∷ []) (due_in (flow_at w other))
+unfolding OwnEventMayFollow
 opens_more payloads w es id other endpoints none t = search (
   arith,
   cases_eq,
@@ -382,8 +391,8 @@ opens_more payloads w es id other endpoints none t = search (
 )
 
 pub made_owner : (segments : List Segment) (w : State) (p : EndpointPair) →
-    length w.known < length w.lasts → IsSound w → Owns segments w →
-    MadeKnown segments w p (next_slot w.free)
+    length w.known < length w.lasts → IsSound w → IsOwned segments w →
+    IsOwnedMadeKnown segments w p (next_slot w.free)
 made_owner segments w p l h owns =
     let slot : ℕ = next_slot w.free in
     let free : 0 < times slot w.free = next_free w h l in
@@ -392,8 +401,8 @@ made_owner segments w p l h owns =
     (h.vacant (2 * slot + 1) none.1) (omega (arith, free, h.once slot)) (sym h.pairs) owns
 
 pub made_at : (segments : List Segment) (w : State) (p : EndpointPair) →
-    length w.known < length w.lasts → index_of p w.known ≡ None → At segments w →
-    At segments (made_known w p)
+    length w.known < length w.lasts → index_of p w.known ≡ None → IsSoundAfter segments w →
+    IsSoundAfter segments (made_known w p)
 unfolding made_known
 made_at segments w p l new h =
     let slot : ℕ = next_slot w.free in
@@ -403,7 +412,7 @@ made_at segments w p l new h =
     let none = h.sound.freed slot (next_free w h.sound l) in
     record {
       sound = known_sound w p (rest_of_slots w.free) slot lasts (set w.syns slot None)
-          (came_none w.came slot) (opened slot p w.events) h.sound had new
+          (with_none_come w.came slot) (with_both_opened slot p w.events) h.sound had new
           (length-set w.lasts slot w.segments);
       payloads = h.payloads;
       came = h.came;

@@ -4,7 +4,7 @@ use Rattle.std.specs.List.{remove}
 use Rattle.tcp_waiting.specs.Payload.{Payload, count_of}
 use Rattle.tcp_flow.specs.declared.flow.CloseCause.{CloseCause}
 use Rattle.tcp_flow.specs.declared.flow.FlowState.{FlowState}
-use Rattle.tcp_flow.specs.Flow.{Reader, first_of}
+use Rattle.tcp_flow.specs.Flow.{Reader, oldest_held}
 use Rattle.tcp_flow.specs.State.{state}
 use Rattle.tcp_flow.proofs.Room.{gap_fewer}
 use Rattle.tcp_streams.specs.declared.pair.EndpointPair.{EndpointPair}
@@ -13,7 +13,7 @@ use Rattle.tcp_streams.specs.Pairs.{flow_id, opposite}
 use Rattle.tcp_connections.specs.Connections.{State, flow_at, with_flow, gapped, gaps_at, is_holding, shown, forgotten}
 use Rattle.tcp_connections.proofs.Cases.{gapped_some}
 use Rattle.tcp_connections.proofs.Forgotten.{forgotten_known, forgotten_lasts}
-use Rattle.tcp_connections.proofs.Kept.{IsKept, kept_self, gapped_kept}
+use Rattle.tcp_connections.proofs.Kept.{HasSameConnections, kept_self, gapped_kept}
 use Rattle.tcp_connections.proofs.Repeated.{own_keep}
 
 pub shown_keeps : (F : Reader) (P : State → Type 0) →
@@ -30,7 +30,7 @@ shown_keeps F P k w slot side h =
 -- each gap leaves less
 pub gapped_fewer : (F : Reader) (w : State) (id : ℕ) → is_holding w.held (flow_at w id) ≡ true →
     length (gapped F w id).held < length w.held
-unfolding is_holding with_flow first_of
+unfolding is_holding with_flow oldest_held
 gapped_fewer F w id e = by (flow_at w id) refl
   where
     by : (o : Option FlowState) → flow_at w id ≡ o → length (gapped F w id).held < length w.held
@@ -45,8 +45,10 @@ none_counts id [] l = refl
 none_counts id (p ∷ ps) l = absurd (omega (arith, l))
 
 -- the known connections stay
-pub shown_kept : (F : Reader) (w : State) (slot : ℕ) (side : Side) → IsKept w (shown F w slot side)
-shown_kept F w slot side = shown_keeps F (IsKept w) (λ v id h. gapped_kept F w v id h) w slot side
+pub shown_kept : (F : Reader) (w : State) (slot : ℕ) (side : Side) →
+    HasSameConnections w (shown F w slot side)
+shown_kept F w slot side = shown_keeps F (HasSameConnections w)
+    (λ v id h. gapped_kept F w v id h) w slot side
     (kept_self w)
 
 -- the connection is forgotten afterwards

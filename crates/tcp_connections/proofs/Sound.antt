@@ -7,12 +7,12 @@ use Rattle.tcp_waiting.specs.declared.arrival.Arrival as origin
 use Rattle.tcp_waiting.specs.Payload.{Payload, count_of}
 use Rattle.tcp_flow.specs.declared.flow.FlowState.{FlowState}
 use Rattle.tcp_flow.specs.Flow.{Flow, Event, held_by_others}
-use Rattle.tcp_flow.specs.Laws.{IsSettled}
+use Rattle.tcp_flow.specs.Laws.{HoldsOnlyToCome}
 use Rattle.tcp_flow.specs.State.{state}
 use Rattle.tcp_flow.proofs.Others.{settled_beside, others_twice}
 use Rattle.tcp_streams.specs.declared.pair.EndpointPair.{EndpointPair}
 use Rattle.tcp_streams.specs.Pairs.{compare_pairs}
-use Rattle.tcp_connections.specs.Connections.{State, flow_at, flow_state, with_flow, index_of, index_among}
+use Rattle.tcp_connections.specs.Connections.{State, flow_at, flow_state, with_flow, index_of, insertion_index}
 use Rattle.tcp_connections.specs.declared.syns.KeptSyn.{KeptSyn}
 use Rattle.tcp_connections.specs.State.{IsSound, times}
 use Rattle.tcp_connections.proofs.Search.{sorted_insert, sorted_remove}
@@ -57,20 +57,22 @@ count_gone a (p ∷ ps) = gone_by a p (held_by_others a ps) (nat_eq p.flow a) re
 
 -- ---- One flow.
 
-pub IsApart : State → ℕ → Type 0
-IsApart w id = (slot : ℕ) → 0 < times slot w.free → (2 * slot ≡ id → ⊥) × (2 * slot + 1 ≡ id → ⊥)
+pub IsOfNoFreeSlot : State → ℕ → Type 0
+IsOfNoFreeSlot w id = (slot : ℕ) → 0 < times slot w.free →
+    (2 * slot ≡ id → ⊥) × (2 * slot + 1 ≡ id → ⊥)
 
 pub apart_some : (w : State) (id : ℕ) (s : FlowState) → IsSound w → flow_at w id ≡ Some s →
-    IsApart w id
-unfolding IsApart
+    IsOfNoFreeSlot w id
+unfolding IsOfNoFreeSlot
 apart_some w id s h e slot m =
     let z = h.freed slot m in (
       (λ o. some_none (flow_at w id) s e (subst (λ (k : ℕ). flow_at w k ≡ None) o z.0)),
       (λ o. some_none (flow_at w id) s e (subst (λ (k : ℕ). flow_at w k ≡ None) o z.1)),
     )
 
-pub apart_taken : (w : State) (id : ℕ) → IsSound w → 0 < times (id / 2) w.slots → IsApart w id
-unfolding IsApart
+pub apart_taken : (w : State) (id : ℕ) → IsSound w → 0 < times (id / 2) w.slots →
+    IsOfNoFreeSlot w id
+unfolding IsOfNoFreeSlot
 apart_taken w id h t slot m = (
   (λ o. clash (let e : id / 2 ≡ slot = omega (arith, o) in e)),
   (λ o. clash (let e : id / 2 ≡ slot = omega (arith, o) in e)),
@@ -91,8 +93,9 @@ own_flow w id j o l e = ap (λ (k : ℕ). get_or (set w.flows id o) k None) e
 
 pub with_flow_sound : (w : State) (id : ℕ) (f : Flow) → IsSound w → id < length w.flows →
     f.id ≡ id → held_by_others id f.held ≡ held_by_others id w.held
-    → IsSettled (state (flow_state f) f.held []) → IsApart w id → IsSound (with_flow w id f)
-unfolding with_flow IsApart
+    → HoldsOnlyToCome (state (flow_state f) f.held []) → IsOfNoFreeSlot w id →
+    IsSound (with_flow w id f)
+unfolding with_flow IsOfNoFreeSlot
 with_flow_sound w id f h l own beside settled apart =
     let flow : Option FlowState = Some (flow_state f) in
     record {
@@ -121,7 +124,7 @@ with_flow_sound w id f h l own beside settled apart =
       settled =
           λ j s e.
           elim (cases_eq j id) [
-            | inl y ↦ subst (λ (t : FlowState). IsSettled (state t f.held []))
+            | inl y ↦ subst (λ (t : FlowState). HoldsOnlyToCome (state t f.held []))
                 (some_same (flow_state f) s (sym (own_flow w id j flow l y) ∙ e)) settled
             | inr n ↦
                 (let d = sym (other_flow w id j flow n) ∙ e in
@@ -223,10 +226,10 @@ sound_seen w lasts syns came segments events arrival e h =
 
 -- ---- A connection.
 
-among_most : (p : EndpointPair) (xs : List EndpointPair) → index_among p xs ≤ length xs
-unfolding index_among
+among_most : (p : EndpointPair) (xs : List EndpointPair) → insertion_index p xs ≤ length xs
+unfolding insertion_index
 among_most p [] = omega arith
-among_most p (x ∷ xs) = most_by (is_lt (compare_pairs x p)) (index_among p xs) (length xs)
+among_most p (x ∷ xs) = most_by (is_lt (compare_pairs x p)) (insertion_index p xs) (length xs)
     (among_most p xs)
   where
     most_by : (b : Bool) (m n : ℕ) → m ≤ n → cond b (suc m) 0 ≤ suc n
@@ -239,9 +242,9 @@ pub known_sound : (w : State) (p : EndpointPair) (rest : List ℕ) (slot : ℕ) 
     w.free ≡ rest ++ slot ∷ [] → index_of p w.known ≡ None →
     length lasts ≡ length w.lasts
     → IsSound (record w {
-      known = insert w.known (index_among p w.known) p;
+      known = insert w.known (insertion_index p w.known) p;
       slots =
-          insert w.slots (index_among p w.known) slot;
+          insert w.slots (insertion_index p w.known) slot;
       free = rest;
       lasts = lasts;
       syns = syns;
@@ -249,7 +252,7 @@ pub known_sound : (w : State) (p : EndpointPair) (rest : List ℕ) (slot : ℕ) 
       events = events;
     })
 known_sound w p rest slot lasts syns came events h free new e =
-    let index : ℕ = index_among p w.known in
+    let index : ℕ = insertion_index p w.known in
     let most : index ≤ length w.known = among_most p w.known in
     let pairs : length (insert w.known index p) ≡ length w.known + 1 =
     length-insert w.known index p most in

@@ -9,26 +9,26 @@ use Rattle.tcp_flow.specs.declared.flow.CloseCause.{CloseCause}
 use Rattle.tcp_flow.specs.declared.flow.FlowState.{FlowState}
 use Rattle.tcp_flow.specs.declared.flow.ListenerError.{ListenerError}
 use Rattle.tcp_flow.specs.Flow.{Flow, Event, CaptureEvent, OfCapture, held_by_others}
-use Rattle.tcp_flow.specs.Laws.{IsSettled}
+use Rattle.tcp_flow.specs.Laws.{HoldsOnlyToCome}
 use Rattle.tcp_flow.specs.State.{state, IsState as IsFlow}
 use Rattle.tcp_flow.proofs.Others.{others_blocks}
 use Rattle.tcp_connections.specs.declared.came.Came.{Came}
 use Rattle.tcp_connections.specs.declared.connections.Connections.{Connections}
 use Rattle.tcp_connections.specs.declared.flows.Flows.{Flows}
-use Rattle.tcp_connections.specs.declared.givers.Givers.{Givers}
+use Rattle.tcp_connections.specs.declared.givers.GapRanks.{GapRanks}
 use Rattle.tcp_slots.specs.declared.stamps.Stamps.{Stamps}
 use Rattle.tcp_waiting.specs.declared.pool.Pool.{Pool}
 use Rattle.tcp_streams.specs.declared.pair.Side.{Side}
-use Rattle.tcp_streams.specs.Lives.{lives, behind, most_ids}
+use Rattle.tcp_streams.specs.Lives.{lives, lives_behind, most_ids}
 use Rattle.tcp_streams.proofs.Order.{lives_more}
-use Rattle.tcp_connections.specs.Connections.{State, none_known, flow_at, live_at, live_of, with_flow, with_packet, with_capture_event, slot_at, flow_forgotten, forgotten, eldest}
-use Rattle.tcp_connections.specs.Givers.{IsNoted}
+use Rattle.tcp_connections.specs.Connections.{State, none_known, flow_at, stream_start_at, stream_start_of, with_flow, with_packet, with_capture_event, slot_at, flow_forgotten, forgotten, eldest}
+use Rattle.tcp_connections.specs.Givers.{IsRankSet}
 use Rattle.tcp_connections.specs.State.{AreRanked, IsSound, IsStateOver, IsState, IsAt, state_of, times}
-use Rattle.tcp_connections.proofs.Before.{IsOrdered, noted_ranked, others_twice, still_ranked}
-use Rattle.tcp_connections.proofs.Living.{IsTold, IsTurn, lives_ids, no_turn}
+use Rattle.tcp_connections.proofs.Before.{KeepsOrderBut, noted_ranked, others_twice, still_ranked}
+use Rattle.tcp_connections.proofs.Living.{IsToldIfLive, MovesOnlyOwn, lives_ids, no_turn}
 use Rattle.tcp_connections.proofs.Forgotten.{both_forgotten, forgotten_sound}
 use Rattle.tcp_connections.proofs.Times.{no_flow, none_there}
-use Rattle.tcp_connections.proofs.Sound.{IsApart, slot_below, some_within, apart_some, with_flow_sound, forgot_sound, sound_seen}
+use Rattle.tcp_connections.proofs.Sound.{IsOfNoFreeSlot, slot_below, some_within, apart_some, with_flow_sound, forgot_sound, sound_seen}
 
 -- what is true of the code's state, whatever has happened, is true of each state that it has
 pub by_state : {over : ℕ} (P : State → Type 0) (O : List Event → Type 0) (live : List ℕ)
@@ -55,16 +55,17 @@ pub sound_any : (c : Connections) (es fs : List Event) → IsSound (state_of c e
 sound_any c es fs h = search (arith, sound_seen)
 
 -- the state without what flows have
-abbrev pub rest_of : Connections → List Event → State
-rest_of c es = record (state_of c es) { flows = []; blocks = 0; held = [] }
+abbrev pub state_without_flows : (connections : Connections) (events : List Event) → State
+state_without_flows c es = record (state_of c es) { flows = []; blocks = 0; held = [] }
 
 -- a flow was set, and what waits has changed
-pub set_rest : (c : Connections) (f : Flows) (p : Pool) (g : Givers) → f.came ≡ c.flows.came →
+pub set_rest : (c : Connections) (f : Flows) (p : Pool) (g : GapRanks) → f.came ≡ c.flows.came →
     f.stamps ≡ c.flows.stamps → (e : List Event) →
-    rest_of (record c { flows = f; pool = p; givers = g }) e ≡ rest_of c e
+    state_without_flows (record c { flows = f; pool = p; givers = g }) e ≡ state_without_flows c e
 set_rest c f p g came stamps e =
-    ap (λ (k : Came). record (rest_of c e) { came = k.ids.items; lasts = f.stamps.last.items }) came
-    ∙ ap (λ (s : Stamps). record (rest_of c e) { lasts = s.last.items }) stamps
+    ap (λ (k : Came). record (state_without_flows c e)
+    { came = k.ids.items; lasts = f.stamps.last.items }) came
+    ∙ ap (λ (s : Stamps). record (state_without_flows c e) { lasts = s.last.items }) stamps
 
 -- a state is kept if it is the same whatever has happened
 pub kept : (O : List Event → Type 0) (live : List ℕ) (c c' : Connections) (w : State)
@@ -101,7 +102,7 @@ enough O live c w h blocks = record {
 
 -- only flows and what they hold have changed
 pub changed : (c c' : Connections) (es : List Event) →
-    ((e : List Event) → rest_of c' e ≡ rest_of c e) →
+    ((e : List Event) → state_without_flows c' e ≡ state_without_flows c e) →
     (flows : List (Option FlowState)) (held : List Payload)
     → c'.flows.states.items ≡ flows → c'.pool.blocks ≡ c.pool.blocks → c'.pool.held ≡ held →
     state_of c' es ≡ record (state_of c es) { flows = flows; held = held }
@@ -138,10 +139,10 @@ beside_own id own held held' e h = search (arith)
 
 -- the live streams are told after one flow and what has happened have changed
 pub told_flow : (w : State) (id : ℕ) (o : Option FlowState) (events : List Event) →
-    ((j : ℕ) → IsTold (is_some (live_at w j)) (times j (lives w.events)))
-    → id < length w.flows → IsTold (is_some (live_of o)) (times id (lives events)) →
+    ((j : ℕ) → IsToldIfLive (is_some (stream_start_at w j)) (times j (lives w.events)))
+    → id < length w.flows → IsToldIfLive (is_some (stream_start_of o)) (times id (lives events)) →
     ((j : ℕ) → (j ≡ id → ⊥) → times j (lives events) ≡ times j (lives w.events))
-    → (j : ℕ) → IsTold (is_some (live_of (get_or (set w.flows id o) j None)))
+    → (j : ℕ) → IsToldIfLive (is_some (stream_start_of (get_or (set w.flows id o) j None)))
     (times j (lives events))
 told_flow w id o events told l own beside j = search (
   arith,
@@ -158,8 +159,8 @@ pub turn_start : {over : ℕ} (O : List Event → Type 0) (live : List ℕ) (c :
     (es : List Event)
     (id : ℕ) (s : FlowState) → IsStateOver over O live c (state_of c es) →
     flow_at (state_of c es) id ≡ Some s
-    → IsTurn id es (state s c.pool.held es)
-unfolding live_of
+    → MovesOnlyOwn id es (state s c.pool.held es)
+unfolding stream_start_of
 turn_start O live c es id s h e = search (arith, no_turn, is_some)
 
 pub small_id : (w : State) (id : ℕ) → IsSound w → id < length w.flows → id < most_ids
@@ -167,17 +168,18 @@ small_id w id h l = search (arith)
 
 -- the ranks after a step of a flow
 stepped_ranked : {over : ℕ} (O : List Event → Type 0) (live : List ℕ) (c : Connections)
-    (es : List Event) (id : ℕ) (flows : List (Option FlowState)) (g : Givers) (live' : List ℕ)
+    (es : List Event) (id : ℕ) (flows : List (Option FlowState)) (g : GapRanks) (live' : List ℕ)
     (held : List Payload) (events : List Event) → IsStateOver over O live c (state_of c es)
     → id < length c.flows.states.items → length flows ≡ length c.flows.states.items
-    → live' ≡ lives events → IsNoted c.givers g id (load_of id held) (last_or None live')
+    → live' ≡ lives events → IsRankSet c.givers g id (load_of id held) (last_or None live')
     → held_by_others id held ≡ held_by_others id c.pool.held
-    → IsOrdered id (lives es) (lives events) → AreRanked g (length flows) held (lives events)
+    → KeepsOrderBut id (lives es) (lives events) → AreRanked g (length flows) held (lives events)
 stepped_ranked O live c es id flows g live' held events h l many lived noted beside order =
     subst (λ (n : ℕ). AreRanked g n held (lives events)) (sym many)
     (noted_ranked c.givers g id (length c.flows.states.items) c.pool.held held (lives es)
     (lives events) h.ranked l
-    (subst (λ (xs : List ℕ). IsNoted c.givers g id (load_of id held) (last_or None xs)) lived noted)
+    (subst (λ (xs : List ℕ). IsRankSet c.givers g id (load_of id held) (last_or None xs)) lived
+    noted)
     beside order (lives_ids events).1)
 
 -- a step of a flow, with all others
@@ -187,14 +189,14 @@ pub flow_done : {over rest : ℕ} (O O' : List Event → Type 0) (live live' : L
     → IsStateOver over O live c (state_of c es) → id < length c.flows.states.items
     → IsFlow (λ e. O' e × (live' ≡ lives e)) s' c'.pool.held f
     → s'.id ≡ id → held_by_others id c'.pool.held ≡ held_by_others id c.pool.held →
-    blocks_of c'.pool.held ≤ c.pool.blocks + rest → IsSettled (state s' c'.pool.held []) →
-    IsApart (state_of c es) id → IsTurn id es f
-    → ((e : List Event) → rest_of c' e ≡ rest_of c e) →
+    blocks_of c'.pool.held ≤ c.pool.blocks + rest → HoldsOnlyToCome (state s' c'.pool.held []) →
+    IsOfNoFreeSlot (state_of c es) id → MovesOnlyOwn id es f
+    → ((e : List Event) → state_without_flows c' e ≡ state_without_flows c e) →
     c'.flows.states.items ≡ set c.flows.states.items id (Some s') → c'.pool.blocks ≡ c.pool.blocks
     → c'.free.most ≡ c.free.most → c'.table.most ≡ c.table.most
-    → IsNoted c.givers c'.givers id (load_of id c'.pool.held) (last_or None live')
+    → IsRankSet c.givers c'.givers id (load_of id c'.pool.held) (last_or None live')
     → IsStateOver rest O' live' c' (with_flow (state_of c es) id f)
-unfolding with_flow live_of
+unfolding with_flow stream_start_of
 flow_done {rest = most} O O' live live' c c' es id s' f h l n own beside blocks settled apart turn
     rest flows pool
     free slot noted =
@@ -230,12 +232,12 @@ pub flow_turned : {over rest : ℕ} (O O' : List Event → Type 0) (live live' :
     IsStateOver over O live c (state_of c es) →
     flow_at (state_of c es) id ≡ Some s → IsFlow (λ e. O' e × (live' ≡ lives e)) s' c'.pool.held f
     → s'.id ≡ s.id → held_by_others s.id c'.pool.held ≡ held_by_others s.id c.pool.held →
-    blocks_of c'.pool.held ≤ c.pool.blocks + rest → IsSettled (state s' c'.pool.held [])
-    → (id < most_ids → IsTurn id es (state s c.pool.held es) → IsTurn id es f)
-    → ((e : List Event) → rest_of c' e ≡ rest_of c e) →
+    blocks_of c'.pool.held ≤ c.pool.blocks + rest → HoldsOnlyToCome (state s' c'.pool.held [])
+    → (id < most_ids → MovesOnlyOwn id es (state s c.pool.held es) → MovesOnlyOwn id es f)
+    → ((e : List Event) → state_without_flows c' e ≡ state_without_flows c e) →
     c'.flows.states.items ≡ set c.flows.states.items id (Some s') → c'.pool.blocks ≡ c.pool.blocks
     → c'.free.most ≡ c.free.most → c'.table.most ≡ c.table.most
-    → IsNoted c.givers c'.givers id (load_of id c'.pool.held) (last_or None live')
+    → IsRankSet c.givers c'.givers id (load_of id c'.pool.held) (last_or None live')
     → IsStateOver rest O' live' c' (with_flow (state_of c es) id f)
 flow_turned O O' live live' c c' es id s s' f h e n own beside blocks settled turn =
     let same : s.id ≡ id = h.sound.ids id s e in
@@ -250,19 +252,19 @@ pub forgot_done : (O O' : List Event → Type 0) (live live' : List ℕ) (c c' :
     (es : List Event) (id : ℕ) (s' : FlowState) (f : Flow)
     → IsState O live c (state_of c es) → id < length c.flows.states.items
     → IsFlow (λ e. O' e × (live' ≡ lives e)) s' c.pool.held f
-    → IsTurn id es f
-    → ((e : List Event) → rest_of c' e ≡ rest_of c e) →
+    → MovesOnlyOwn id es f
+    → ((e : List Event) → state_without_flows c' e ≡ state_without_flows c e) →
     c'.flows.states.items ≡ set c.flows.states.items id None →
     c'.pool.blocks ≡ c.pool.blocks → c'.pool.held ≡ held_by_others id c.pool.held
     → c'.free.most ≡ c.free.most → c'.table.most ≡ c.table.most
-    → IsNoted c.givers c'.givers id (load_of id c'.pool.held) (last_or None live')
+    → IsRankSet c.givers c'.givers id (load_of id c'.pool.held) (last_or None live')
     → IsState O' live' c' (record (state_of c es) {
       flows = set c.flows.states.items id None;
       held =
           held_by_others id c.pool.held;
       events = f.events;
     })
-unfolding live_of
+unfolding stream_start_of
 forgot_done O O' live live' c c' es id s' f h l n turn rest flows pool held free slot noted =
     record {
       observed = n.observed.0;
@@ -280,7 +282,7 @@ forgot_done O O' live live' c c' es id s' f h l n turn rest flows pool held free
           (held_by_others id c.pool.held) f.events h l (length-set c.flows.states.items id None)
           n.observed.1
           (subst (λ (ps : List Payload).
-          IsNoted c.givers c'.givers id (load_of id ps) (last_or None live')) held noted)
+          IsRankSet c.givers c'.givers id (load_of id ps) (last_or None live')) held noted)
           (others_twice id c.pool.held) turn.order;
     }
 
@@ -371,7 +373,7 @@ before_end O live c w h = search (arith)
 pub close_done : (O' : List Event → Type 0) (live' : List ℕ) (c c' : Connections) (es : List Event)
     (id : ℕ) (s' : FlowState) (f : Flow)
     → IsFlow (λ e. O' e × (live' ≡ lives e)) s' c.pool.held f
-    → ((e : List Event) → rest_of c' e ≡ rest_of c e) →
+    → ((e : List Event) → state_without_flows c' e ≡ state_without_flows c e) →
     c'.flows.states.items ≡ set c.flows.states.items id (Some s') → c'.pool.blocks ≡ c.pool.blocks →
     c'.pool.held ≡ c.pool.held
     → IsAt O' live' c' (with_flow (state_of c es) id f)
@@ -388,8 +390,9 @@ close_done O' live' c c' es id s' f n rest flows pool held =
 -- ---- No connection is known yet.
 
 none_live : (ports : List ℕ) (blocks most : ℕ) (events : List Event) (id : ℕ) →
-    is_some (live_at (none_known ports blocks most events) id) ≡ true → 0 < times id (lives events)
-unfolding live_of
+    is_some (stream_start_at (none_known ports blocks most events) id) ≡ true →
+    0 < times id (lives events)
+unfolding stream_start_of
 none_live ports blocks most events id e = search (arith, true≢false, is_some, none_there)
 
 -- the state that `new` makes, for a listener that has observed these events
@@ -406,7 +409,7 @@ starts O live c ports blocks most events o lived same sound free slot ranked =
       observed = o;
       live = lived;
       same = refl;
-      told = subst (λ (w : State). (id : ℕ) → is_some (live_at w id) ≡ true →
+      told = subst (λ (w : State). (id : ℕ) → is_some (stream_start_at w id) ≡ true →
           0 < times id (lives w.events)) (sym same) (none_live ports blocks most events);
       sound = sound_any c [] events sound;
       blocks = omega (arith, ap (λ (w : State). blocks_of w.held) same);
@@ -443,5 +446,5 @@ packet_read O live c c' w time same free table givers h =
 pub told_capture : (O O' : List Event → Type 0) (live : List ℕ) (c : Connections) (w : State)
     (event : CaptureEvent) → IsState O live c w → O' (w.events ++ OfCapture event ∷ [])
     → IsState O' live c (with_capture_event w event)
-unfolding behind
+unfolding lives_behind
 told_capture O O' live c w event h o = search (arith, lives_more, sound_any)

@@ -10,7 +10,7 @@ use Rattle.tcp_streams.specs.declared.pair.Side.{Side}
 use Rattle.tcp_streams.specs.declared.pair.Side.TheVariants.{FromLesser, FromGreater}
 use Rattle.tcp_streams.specs.Lives.{lives, elder_side}
 use Rattle.tcp_streams.specs.Pairs.{flow_id}
-use Rattle.tcp_connections.specs.Connections.{State, flow_at, slot_at, index_of, index_among, goes_before, eldest, shown_by_age, cleared, with_room, next_slot, made_known}
+use Rattle.tcp_connections.specs.Connections.{State, flow_at, slot_at, index_of, insertion_index, makes_room_before, eldest, shown_by_age, cleared, with_room, next_slot, made_known}
 use Rattle.tcp_connections.specs.State.{IsSound, times}
 use Rattle.tcp_connections.proofs.Cases.{room_there, room_made}
 use Rattle.tcp_connections.proofs.Search.{unknown_remove}
@@ -23,9 +23,10 @@ either_below false m n k h g = g
 
 pub eldest_below : (w : State) (n : ℕ) → eldest w (suc n) < suc n
 unfolding eldest
-eldest_below w zero = either_below (goes_before w 0 0) 0 0 1 (omega arith) (omega arith)
+eldest_below w zero = either_below (makes_room_before w 0 0) 0 0 1 (omega arith) (omega arith)
 eldest_below w (suc n) = let h = eldest_below w n in
-    either_below (goes_before w (suc n) (eldest w (suc n))) (suc n) (eldest w (suc n)) (suc (suc n))
+    either_below (makes_room_before w (suc n) (eldest w (suc n))) (suc n) (eldest w (suc n))
+    (suc (suc n))
     (omega arith) (omega (arith, h))
 
 pub eldest_within : (w : State) (n : ℕ) → 0 < n → eldest w n < n
@@ -91,7 +92,7 @@ next_taken w p =
     times_own (next_slot w.free) in
     omega (
       arith,
-      times_insert (next_slot w.free) w.slots (index_among p w.known)
+      times_insert (next_slot w.free) w.slots (insertion_index p w.known)
           (next_slot w.free),
       own,
     )

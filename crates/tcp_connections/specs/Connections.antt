@@ -8,11 +8,11 @@ use Rattle.tcp_segment.specs.declared.endpoint.Flow as endpoints
 use Rattle.tcp_segment.specs.Segments.{Segment}
 use Rattle.tcp_waiting.specs.declared.arrival.Arrival as origin
 use Rattle.tcp_waiting.specs.Numbers.{onward}
-use Rattle.tcp_waiting.specs.Payload.{Payload, first, blocks_of, load_of}
+use Rattle.tcp_waiting.specs.Payload.{Payload, oldest_index, blocks_of, load_of}
 use Rattle.tcp_flow.specs.declared.flow.CloseCause.{CloseCause}
 use Rattle.tcp_flow.specs.declared.flow.CloseCause.TheVariants.{Reset, Syn, Room, Gap, End as CaptureEnd}
 use Rattle.tcp_flow.specs.declared.flow.FlowState.{FlowState}
-use Rattle.tcp_flow.specs.Flow.{Flow, Event, CaptureEvent, Opens, OfCapture, Passes, Reader, Arrival, Octets, End, Hears, is_near, stream_at, is_beginning, lives as has_stream, closed, gap, step as flow_step, first_payload, held_by_others}
+use Rattle.tcp_flow.specs.Flow.{Flow, Event, CaptureEvent, Opens, OfCapture, Passes, Reader, Arrival, Octets, End, Hears, is_near, stream_begin_in, is_header_beginning, lives as has_stream, closed, with_gap, step as flow_step, first_payload, held_by_others}
 use Rattle.tcp_flow.specs.State.{state}
 use Rattle.tcp_connections.specs.declared.syns.KeptSyn.{KeptSyn}
 use Rattle.tcp_slots.specs.Slots.{slots_below}
@@ -45,7 +45,7 @@ pub record State : Type 0 where
   pub arrival : origin.Arrival
 
 -- no connection is known, and there are `most` slots
-abbrev pub none_known : List ℕ → ℕ → ℕ → List Event → State
+abbrev pub none_known : (ports : List ℕ) (blocks most : ℕ) (events : List Event) → State
 none_known ports blocks most events = record {
   ports = ports;
   blocks = blocks;
@@ -63,13 +63,13 @@ none_known ports blocks most events = record {
 }
 
 -- the listener is told of what happens in the capture; nothing else changes
-abbrev pub with_capture_event : State → CaptureEvent → State
+abbrev pub with_capture_event : (state : State) (event : CaptureEvent) → State
 with_capture_event w event = record w { events = w.events ++ OfCapture event ∷ [] }
 
 -- ---- One flow.
 
 -- the flow of an id, from its first stream on
-abbrev pub flow_at : State → ℕ → Option FlowState
+abbrev pub flow_at : (state : State) (id : ℕ) → Option FlowState
 flow_at w id = get_or w.flows id None
 
 -- what is kept of a flow
@@ -87,12 +87,12 @@ flow_state f = record {
 }
 
 -- the state after a flow was set
-unfoldable pub with_flow : State → ℕ → Flow → State
+unfoldable pub with_flow : (state : State) (id : ℕ) (flow : Flow) → State
 with_flow w id f =
     record w { flows = set w.flows id (Some (flow_state f)); held = f.held; events = f.events }
 
 -- something comes for a flow; nothing happens before its first payload
-unfoldable pub arrived : Reader → State → ℕ → Arrival → State
+unfoldable pub arrived : (reader : Reader) (state : State) (id : ℕ) (arrival : Arrival) → State
 arrived F w id arrival =
     elim (flow_at w id) [
       | None ↦ w
@@ -100,25 +100,25 @@ arrived F w id arrival =
     ]
 
 -- the first payload of a flow comes
-unfoldable pub began : Reader → State → ℕ → ℕ → List ℕ → State
+unfoldable pub began : (reader : Reader) (state : State) (id number : ℕ) (octets : List ℕ) → State
 began F w id number octets =
     with_flow w id (first_payload F id number octets w.arrival w.held w.events)
 
 -- a gap in a flow
-unfoldable pub gapped : Reader → State → ℕ → State
+unfoldable pub gapped : (reader : Reader) (state : State) (id : ℕ) → State
 gapped F w id =
     elim (flow_at w id) [
       | None ↦ w
-      | Some s ↦ with_flow w id (gap F (state s w.held w.events))
+      | Some s ↦ with_flow w id (with_gap F (state s w.held w.events))
     ]
 
 -- whether a flow holds something
-unfoldable pub is_holding : List Payload → Option FlowState → Bool
+unfoldable pub is_holding : (held : List Payload) (flow : Option FlowState) → Bool
 is_holding held None = false
-is_holding held (Some s) = is_some (first s.id s.next held)
+is_holding held (Some s) = is_some (oldest_index s.id s.next held)
 
 -- gaps in a flow while it holds something, at most `count`
-unfoldable pub gaps_at : Reader → ℕ → State → ℕ → State
+unfoldable pub gaps_at : (reader : Reader) (count : ℕ) (state : State) (id : ℕ) → State
 gaps_at F zero w id = w
 gaps_at F (suc count) w id =
     elim (is_holding w.held (flow_at w id)) [
@@ -127,27 +127,27 @@ gaps_at F (suc count) w id =
     ]
 
 -- gaps in a flow until it holds nothing: each leaves less
-abbrev pub emptied : Reader → State → ℕ → State
+abbrev pub emptied : (reader : Reader) (state : State) (id : ℕ) → State
 emptied F w id = gaps_at F (length w.held) w id
 
 -- the one of two flows that gives up if the pool is short: the one that holds more blocks, or the
 -- first if both hold as many
-abbrev pub heavier : List Payload → ℕ → ℕ → ℕ
-heavier held a b = cond (nat_lt (load_of a held) (load_of b held)) b a
+abbrev pub heavier : (held : List Payload) (one other : ℕ) → ℕ
+heavier held one other = cond (nat_lt (load_of one held) (load_of other held)) other one
 
 -- the one that gives up of a flow and others after it
-unfoldable pub heaviest_from : List Payload → ℕ → List ℕ → ℕ
+unfoldable pub heaviest_from : (held : List Payload) (id : ℕ) (numbers : List ℕ) → ℕ
 heaviest_from held id [] = id
 heaviest_from held id (other ∷ ids) = heaviest_from held (heavier held id other) ids
 
 -- the flow that gives up if the pool is short: the one that holds the most blocks; of several, the
 -- one whose stream is the oldest
-abbrev pub heaviest : State → ℕ
+abbrev pub heaviest : (state : State) → ℕ
 heaviest w = heaviest_from w.held (get_or (lives w.events) 0 0) (lives w.events)
 
 -- gaps in the flow that gives up while the pool has too few blocks for what is held, at most
 -- `count`
-unfoldable pub relieved : Reader → ℕ → State → State
+unfoldable pub relieved : (reader : Reader) (count : ℕ) (state : State) → State
 relieved F zero w = w
 relieved F (suc count) w =
     elim (nat_lt w.blocks (blocks_of w.held)) [
@@ -156,11 +156,11 @@ relieved F (suc count) w =
     ]
 
 -- gaps until the pool has enough blocks for what is held: each leaves less
-abbrev pub within_pool : Reader → State → State
+abbrev pub within_pool : (reader : Reader) (state : State) → State
 within_pool F w = relieved F (length w.held) w
 
 -- a flow's live stream closes
-unfoldable pub closed_at : State → ℕ → CloseCause → State
+unfoldable pub closed_at : (state : State) (id : ℕ) (cause : CloseCause) → State
 closed_at w id cause =
     elim (flow_at w id) [
       | None ↦ w
@@ -168,7 +168,7 @@ closed_at w id cause =
     ]
 
 -- a flow is forgotten: its live stream closes, and what it holds is removed
-unfoldable pub flow_forgotten : State → ℕ → CloseCause → State
+unfoldable pub flow_forgotten : (state : State) (id : ℕ) (cause : CloseCause) → State
 flow_forgotten w id cause =
     elim (flow_at w id) [
       | None ↦ w
@@ -180,32 +180,32 @@ flow_forgotten w id cause =
     ]
 
 -- the number that the stream of a flow begins with, if it is live or waited for
-unfoldable pub live_of : Option FlowState → Option ℕ
-live_of None = None
-live_of (Some s) = s.live
+unfoldable pub stream_start_of : (flow : Option FlowState) → Option ℕ
+stream_start_of None = None
+stream_start_of (Some s) = s.live
 
 -- the same for the flow of an id
-abbrev pub live_at : State → ℕ → Option ℕ
-live_at w id = live_of (flow_at w id)
+abbrev pub stream_start_at : (state : State) (id : ℕ) → Option ℕ
+stream_start_at w id = stream_start_of (flow_at w id)
 
 -- ---- Which connections are known.
 
 -- the index of a pair among those that are known, or at which it would be inserted
-unfoldable pub index_among : EndpointPair → List EndpointPair → ℕ
-index_among p [] = 0
-index_among p (q ∷ qs) = cond (is_lt (compare_pairs q p)) (suc (index_among p qs)) 0
+unfoldable pub insertion_index : (pair : EndpointPair) (endpoint_pairs : List EndpointPair) → ℕ
+insertion_index p [] = 0
+insertion_index p (q ∷ qs) = cond (is_lt (compare_pairs q p)) (suc (insertion_index p qs)) 0
 
 -- the index of a pair among those that are known
-unfoldable pub index_of : EndpointPair → List EndpointPair → Option ℕ
+unfoldable pub index_of : (pair : EndpointPair) (endpoint_pairs : List EndpointPair) → Option ℕ
 index_of p [] = None
 index_of p (q ∷ qs) = cond (is_eq (compare_pairs q p)) (Some 0) (option_map suc (index_of p qs))
 
 -- the slot of the connection at an index
-abbrev pub slot_at : State → ℕ → ℕ
+abbrev pub slot_at : (state : State) (index : ℕ) → ℕ
 slot_at w index = get_or w.slots index 0
 
 -- a connection is forgotten: first the flow of one side, then the other
-unfoldable pub forgotten : State → ℕ → Side → CloseCause → State
+unfoldable pub forgotten : (state : State) (index : ℕ) (side : Side) (cause : CloseCause) → State
 forgotten w index side cause =
     let slot : ℕ = slot_at w index in
     let v : State =
@@ -219,86 +219,87 @@ forgotten w index side cause =
 
 -- what the flows of a slot hold is shown, before its connection is forgotten: first that of the
 -- flow of one side
-unfoldable pub shown : Reader → State → ℕ → Side → State
+unfoldable pub shown : (reader : Reader) (state : State) (slot : ℕ) (side : Side) → State
 shown F w slot side = emptied F (emptied F w (flow_id slot side)) (flow_id slot (opposite side))
 
 -- whether a stream of a flow is live
-unfoldable pub has_live : Option FlowState → Bool
+unfoldable pub has_live : (flow : Option FlowState) → Bool
 has_live None = false
 has_live (Some s) = has_stream s.live s.waits
 
 -- whether a slot's connection has a live stream
-abbrev pub is_live : State → ℕ → Bool
+abbrev pub is_live : (state : State) (slot : ℕ) → Bool
 is_live w slot =
     has_live (flow_at w (flow_id slot FromLesser))
     || has_live (flow_at w (flow_id slot FromGreater))
 
 -- whether segments of a flow came since its connection became known; in the flow that made it
 -- known, the first payload counts
-abbrev pub has_come : State → ℕ → Bool
+abbrev pub has_come : (state : State) (id : ℕ) → Bool
 has_come w id = is_some (flow_at w id) || get_or w.came id false
 
 -- whether segments of both flows of a slot's connection came
-abbrev pub is_both : State → ℕ → Bool
-is_both w slot =
+abbrev pub both_have_come : (state : State) (slot : ℕ) → Bool
+both_have_come w slot =
     has_come w (flow_id slot FromLesser) && has_come w (flow_id slot FromGreater)
 
 -- how late a slot's connection makes room: 0 without a live stream, 1 if segments of one flow alone
 -- came, and 2 for any other
-abbrev pub class_of : State → ℕ → ℕ
-class_of w slot = cond (is_live w slot) (cond (is_both w slot) 2 1) 0
+abbrev pub room_class_of : (state : State) (slot : ℕ) → ℕ
+room_class_of w slot = cond (is_live w slot) (cond (both_have_come w slot) 2 1) 0
 
 -- whether the connection at one index was last seen before that at another
-abbrev pub is_older : State → ℕ → ℕ → Bool
-is_older w a b =
-    nat_lt (get_or w.lasts (slot_at w a) 0) (get_or w.lasts (slot_at w b) 0)
+abbrev pub is_older : (state : State) (one other : ℕ) → Bool
+is_older w one other =
+    nat_lt (get_or w.lasts (slot_at w one) 0) (get_or w.lasts (slot_at w other) 0)
 
 -- whether the connection at one index makes room before that at another: by their classes, then by
 -- their last segments
-abbrev pub goes_before : State → ℕ → ℕ → Bool
-goes_before w a b =
-    nat_lt (class_of w (slot_at w a)) (class_of w (slot_at w b))
-    || nat_eq (class_of w (slot_at w a)) (class_of w (slot_at w b)) && is_older w a b
+abbrev pub makes_room_before : (state : State) (one other : ℕ) → Bool
+makes_room_before w one other =
+    nat_lt (room_class_of w (slot_at w one)) (room_class_of w (slot_at w other))
+    || nat_eq (room_class_of w (slot_at w one))
+    (room_class_of w (slot_at w other)) && is_older w one other
 
--- the index of the connection that makes room, among the first n
-unfoldable pub eldest : State → ℕ → ℕ
+-- the index of the connection that makes room, among the first `count`
+unfoldable pub eldest : (state : State) (count : ℕ) → ℕ
 eldest w zero = 0
-eldest w (suc n) = cond (goes_before w n (eldest w n)) n (eldest w n)
+eldest w (suc count) = cond (makes_room_before w count (eldest w count)) count (eldest w count)
 
 -- what the connection of a slot holds is shown, first that of the flow whose stream began first
-abbrev pub shown_by_age : Reader → State → ℕ → State
+abbrev pub shown_by_age : (reader : Reader) (state : State) (slot : ℕ) → State
 shown_by_age F w slot = shown F w slot (elder_side slot (lives w.events))
 
 -- the connection at an index makes room: what it holds is shown, and then the stream that began
 -- first closes first
-abbrev pub cleared : Reader → State → ℕ → State
+abbrev pub cleared : (reader : Reader) (state : State) (index : ℕ) → State
 cleared F w index =
     let v : State = shown_by_age F w (slot_at w index) in
     forgotten v index (elder_side (slot_at w index) (lives v.events)) Room
 
 -- if no more connections may be known, one makes room
-unfoldable pub with_room : Reader → State → State
+unfoldable pub with_room : (reader : Reader) (state : State) → State
 with_room F w =
     cond (nat_lt (length w.known) (length w.lasts)) w (cleared F w (eldest w (length w.known)))
 
 -- the slot that is taken next
-unfoldable pub next_slot : List ℕ → ℕ
+unfoldable pub next_slot : (free : List ℕ) → ℕ
 next_slot free = get_or free (length free - 1) 0
 
 -- the slots that are free after that one was taken
-unfoldable pub rest_of_slots : List ℕ → List ℕ
+unfoldable pub rest_of_slots : (free : List ℕ) → List ℕ
 rest_of_slots free = take (length free - 1) free
 
 -- a segment of a flow of the connection of a slot came
-abbrev pub with_segment : State → ℕ → ℕ → State
+abbrev pub with_segment : (state : State) (slot id : ℕ) → State
 with_segment w slot id =
     record w { lasts = set w.lasts slot w.segments; came = set w.came id true }
 
 -- a connection becomes known
-unfoldable pub made_known : State → EndpointPair → State
+unfoldable pub made_known : (state : State) (pair : EndpointPair) → State
 made_known w p =
     let slot : ℕ = next_slot w.free in
-    let index : ℕ = index_among p w.known in
+    let index : ℕ = insertion_index p w.known in
     record w {
       known = insert w.known index p;
       slots = insert w.slots index slot;
@@ -313,103 +314,105 @@ made_known w p =
 -- ---- A segment.
 
 -- the number of the first octet; a SYN has a number of its own
-abbrev pub first_number : Segment → ℕ
+abbrev pub first_number : (segment : Segment) → ℕ
 first_number s = onward s.sequence (cond s.syn 1 0)
 
 -- the number after the payload
-abbrev pub number_behind : Segment → ℕ
+abbrev pub number_behind : (segment : Segment) → ℕ
 number_behind s = onward (first_number s) (length s.payload)
 
 -- whether one of a flow's ports is chosen; if none is named, all are
-abbrev pub is_chosen : List ℕ → endpoints.Flow → Bool
-is_chosen ports flow =
+abbrev pub has_chosen_port : (ports : List ℕ) (flow : endpoints.Flow) → Bool
+has_chosen_port ports flow =
     nat_eq (length ports) 0 || list_any (λ port. port == flow.from.port) ports
     || list_any (λ port. port == flow.to.port) ports
 
 -- whether a segment's payload is the first of its flow, for which nothing has come: the segment has
 -- no RST, one of its ports is chosen, and a stream begins in the payload or it is a beginning of
 -- the six octets
-abbrev pub is_first : List ℕ → Segment → Bool
-is_first ports s =
-    not s.reset && is_chosen ports s.flow
-    && (is_some (stream_at s.payload) || is_beginning s.payload)
+abbrev pub is_first_payload : (ports : List ℕ) (segment : Segment) → Bool
+is_first_payload ports s =
+    not s.reset && has_chosen_port ports s.flow
+    && (is_some (stream_begin_in s.payload) || is_header_beginning s.payload)
 
 -- whether a segment's payload is looked through, if nothing has come for its flow
-abbrev pub is_looked_through : List ℕ → Segment → Bool
-is_looked_through ports s = not s.reset && is_chosen ports s.flow && nat_lt 0 (length s.payload)
+abbrev pub is_looked_through : (ports : List ℕ) (segment : Segment) → Bool
+is_looked_through ports s = not s.reset && has_chosen_port ports s.flow && nat_lt 0
+    (length s.payload)
 
 -- no stream begins in the payload of a segment
-unfoldable pub looked_through : State → Segment → State
+unfoldable pub looked_through : (state : State) (segment : Segment) → State
 looked_through w s =
     cond (is_looked_through w.ports s) (with_capture_event w (Passes s.payload)) w
 
 -- ---- A SYN of a known connection.
 
 -- whether a number is near the one that is due in a flow that has begun
-unfoldable pub is_near_due : Option FlowState → ℕ → Bool
+unfoldable pub is_near_due : (flow : Option FlowState) (number : ℕ) → Bool
 is_near_due None number = false
 is_near_due (Some f) number = is_near f.next number
 
 -- whether a number is the flow's own: it is near the one that is due, or the stream begins with it
 -- that is live or waited for
-abbrev pub is_own : Option FlowState → ℕ → Bool
-is_own flow number =
+abbrev pub is_expected_number : (flow : Option FlowState) (number : ℕ) → Bool
+is_expected_number flow number =
     is_near_due flow number
-    || elim (live_of flow) [ None ↦ false | Some first ↦ nat_eq first number ]
+    || elim (stream_start_of flow) [ None ↦ false | Some first ↦ nat_eq first number ]
 
 -- whether a segment of a flow is a SYN that is kept: it has no ACK, and the number after it isn't
 -- the flow's own
-abbrev pub is_kept : Option FlowState → Segment → Bool
-is_kept flow s =
-    s.syn && not (is_some s.acknowledgement) && not (is_own flow (onward s.sequence 1))
+abbrev pub is_syn_to_keep : (flow : Option FlowState) (segment : Segment) → Bool
+is_syn_to_keep flow s =
+    s.syn && not (is_some s.acknowledgement) && not (is_expected_number flow (onward s.sequence 1))
 
 -- a SYN is kept, in place of an older one, and the segment does nothing more
-unfoldable pub syn_kept : State → ℕ → ℕ → Segment → State
+unfoldable pub syn_kept : (state : State) (slot id : ℕ) (segment : Segment) → State
 syn_kept w slot id s =
     record (with_segment w slot id) {
       syns = set w.syns slot (Some (record { flow = id; number = onward s.sequence 1 }));
     }
 
 -- the SYN that a slot's connection keeps
-abbrev pub syn_at : State → ℕ → Option KeptSyn
+abbrev pub syn_at : (state : State) (slot : ℕ) → Option KeptSyn
 syn_at w slot = get_or w.syns slot None
 
 -- whether a segment of an id answers a SYN: it is of the opposite flow, has SYN and ACK, and
 -- acknowledges the SYN
-abbrev pub is_answer : KeptSyn → ℕ → Segment → Bool
-is_answer k id s =
+abbrev pub answers_syn : (syn : KeptSyn) (id : ℕ) (segment : Segment) → Bool
+answers_syn k id s =
     not (nat_eq k.flow id) && s.syn
     && elim s.acknowledgement [ None ↦ false | Some number ↦ nat_eq number k.number ]
 
 -- whether a segment of an id follows a SYN: it has the payload after the SYN, in the same flow
-abbrev pub is_following : KeptSyn → ℕ → Segment → Bool
-is_following k id s =
+abbrev pub follows_syn : (syn : KeptSyn) (id : ℕ) (segment : Segment) → Bool
+follows_syn k id s =
     nat_eq k.flow id && nat_eq s.sequence k.number && nat_lt 0 (length s.payload) && not s.syn
     && not s.reset
 
 -- whether a segment begins its connection anew: it answers the SYN that is kept, or follows it
-unfoldable pub is_anew : Option KeptSyn → ℕ → Segment → Bool
-is_anew None id s = false
-is_anew (Some k) id s = is_answer k id s || is_following k id s
+unfoldable pub begins_anew : (syn : Option KeptSyn) (id : ℕ) (segment : Segment) → Bool
+begins_anew None id s = false
+begins_anew (Some k) id s = answers_syn k id s || follows_syn k id s
 
 -- ---- What a segment does.
 
 -- the FIN of a segment, if it has one
-unfoldable pub fin_taken : Reader → State → ℕ → Segment → State
+unfoldable pub fin_taken : (reader : Reader) (state : State) (id : ℕ) (segment : Segment) → State
 fin_taken F w id s = cond s.fin (arrived F w id (End (number_behind s))) w
 
 -- a segment of a connection that isn't known
-unfoldable pub unknown_taken : Reader → State → Segment → State
+unfoldable pub unknown_taken : (reader : Reader) (state : State) (segment : Segment) → State
 unknown_taken F w s =
     let v : State = with_room F w in
     let id : ℕ = flow_id (next_slot v.free) (pair_of s.flow).1 in
-    cond (is_first w.ports s)
+    cond (is_first_payload w.ports s)
     (fin_taken F (began F (made_known v (pair_of s.flow).0) id (first_number s) s.payload) id s)
     (looked_through w s)
 
 -- the packet that is read tells a flow what it acknowledges of it, and whether it has octets of the
 -- opposite flow
-unfoldable pub heard : Reader → State → ℕ → Option ℕ → Bool → State
+unfoldable pub heard : (reader : Reader) (state : State) (id : ℕ) (acknowledged : Option ℕ)
+    (answers : Bool) → State
 heard F w id acknowledged answers = arrived F w id (Hears (record {
   acknowledged = acknowledged;
   answers = answers;
@@ -417,38 +420,43 @@ heard F w id acknowledged answers = arrived F w id (Hears (record {
 }))
 
 -- a segment tells this to the opposite flow
-abbrev pub acknowledgement_heard : Reader → State → ℕ → Segment → State
+abbrev pub acknowledgement_heard : (reader : Reader) (state : State) (id : ℕ)
+    (segment : Segment) → State
 acknowledgement_heard F w id s = heard F w id s.acknowledgement (nat_lt 0 (length s.payload))
 
 -- a payload: the first of its flow, or a later one, after which the pool may be short
-unfoldable pub payload_taken : Reader → State → ℕ → Segment → State
+unfoldable pub payload_taken : (reader : Reader) (state : State) (id : ℕ) (segment : Segment) →
+    State
 payload_taken F w id s =
     elim (flow_at w id) [
       | None ↦
-          cond (is_first w.ports s) (began F w id (first_number s) s.payload) (looked_through w s)
+          cond (is_first_payload w.ports s) (began F w id (first_number s) s.payload)
+          (looked_through w s)
       | Some f ↦ cond s.reset w
           (within_pool F (arrived F w id (Octets (first_number s) s.payload w.arrival)))
     ]
 
 -- whether a segment of a flow is a RST that counts: its number is near the one that is due
-abbrev pub is_reset : Option FlowState → Segment → Bool
+abbrev pub is_reset : (flow : Option FlowState) (segment : Segment) → Bool
 is_reset flow s = s.reset && is_near_due flow s.sequence
 
 -- the flow of one side of the connection at an index
-abbrev pub flow_of_side : State → ℕ → Side → Option FlowState
+abbrev pub flow_of_side : (state : State) (index : ℕ) (side : Side) → Option FlowState
 flow_of_side w index side = flow_at w (flow_id (slot_at w index) side)
 
 -- what a connection holds is shown, and it is forgotten, because of a segment of one side
-abbrev pub ended_by : Reader → State → ℕ → Side → CloseCause → State
+abbrev pub ended_by : (reader : Reader) (state : State) (index : ℕ) (side : Side)
+    (cause : CloseCause) → State
 ended_by F w index side cause = forgotten (shown F w (slot_at w index) side) index side cause
 
 -- the RST of a segment, if it counts
-unfoldable pub reset_taken : Reader → State → ℕ → Side → Segment → State
+unfoldable pub reset_taken : (reader : Reader) (state : State) (index : ℕ) (side : Side)
+    (segment : Segment) → State
 reset_taken F w index side s =
     cond (is_reset (flow_of_side w index side) s) (ended_by F w index side Reset) w
 
 -- a segment of a known connection, up to its RST
-abbrev pub before_reset : Reader → State → ℕ → Segment → State
+abbrev pub before_reset : (reader : Reader) (state : State) (index : ℕ) (segment : Segment) → State
 before_reset F w index s =
     let side : Side = (pair_of s.flow).1 in
     let slot : ℕ = slot_at w index in
@@ -459,35 +467,36 @@ before_reset F w index s =
 
 -- a segment of a known connection; at the end, its own flow is told of the packet, as what it holds
 -- may be too old
-unfoldable pub known_taken : Reader → State → ℕ → Segment → State
+unfoldable pub known_taken : (reader : Reader) (state : State) (index : ℕ) (segment : Segment) →
+    State
 known_taken F w index s =
     let side : Side = (pair_of s.flow).1 in
     heard F (reset_taken F (before_reset F w index s) index side s) (flow_id (slot_at w index) side)
     None false
 
 -- one more segment
-unfoldable pub step : Reader → State → Segment → State
+unfoldable pub step : (reader : Reader) (state : State) (segment : Segment) → State
 step F w s =
     let v : State = record w { segments = w.segments + 1 } in
     let side : Side = (pair_of s.flow).1 in
     elim (index_of (pair_of s.flow).0 v.known) [
       | None ↦ unknown_taken F v s
       | Some index ↦
-          cond (is_kept (flow_of_side v index side) s)
+          cond (is_syn_to_keep (flow_of_side v index side) s)
           (syn_kept v (slot_at v index) (flow_id (slot_at v index) side) s)
-          (cond (is_anew (syn_at v (slot_at v index)) (flow_id (slot_at v index) side) s)
+          (cond (begins_anew (syn_at v (slot_at v index)) (flow_id (slot_at v index) side) s)
           (unknown_taken F (ended_by F v index side Syn) s) (known_taken F v index s))
     ]
 
 -- all segments, in this order
-unfoldable pub after : Reader → State → List Segment → State
+unfoldable pub after : (reader : Reader) (state : State) (segments : List Segment) → State
 after F w [] = w
 after F w (s ∷ ss) = after F (step F w s) ss
 
 -- ---- What happens in the capture apart from its segments.
 
 -- one more packet is read, which came at this time, if it has one
-abbrev pub with_packet : State → Option ℕ → State
+abbrev pub with_packet : (state : State) (time : Option ℕ) → State
 with_packet w time = record w {
   arrival = record { time = time; packet = min (w.arrival.packet + 1) (2 ^ 64 - 1) };
 }
@@ -496,7 +505,7 @@ with_packet w time = record w {
 
 -- while flows hold something, gaps in the one of them whose last stream began first; those before a
 -- rank hold nothing
-unfoldable pub gaps_from : Reader → ℕ → ℕ → State → State
+unfoldable pub gaps_from : (reader : Reader) (count rank : ℕ) (state : State) → State
 gaps_from F zero rank w = w
 gaps_from F (suc count) rank w =
     elim (nat_lt rank (length (lives w.events))) [
@@ -515,12 +524,12 @@ end_cause None = CaptureEnd
 end_cause (Some s) = cond (is_some s.fin) Gap CaptureEnd
 
 -- the live streams of these flows close, one after another
-unfoldable pub all_closed : List ℕ → State → State
+unfoldable pub all_closed : (numbers : List ℕ) (state : State) → State
 all_closed [] w = w
 all_closed (id ∷ ids) w = all_closed ids (closed_at w id (end_cause (flow_at w id)))
 
 -- the capture ends
-unfoldable pub ended : Reader → State → State
+unfoldable pub ended : (reader : Reader) (state : State) → State
 ended F w =
     let v : State = gaps_from F (length w.held + length (lives w.events)) 0 w in
     all_closed (lives v.events) v

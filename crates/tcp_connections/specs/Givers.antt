@@ -2,29 +2,29 @@
 -- blocks that it holds, and then by its last stream (state).
 use Rattle.std.specs.Prelude.{◌≡◌, ℕ, ◌+◌, ◌-◌, ◌*◌, ◌^◌, ◌<◌, ◌≤◌, cond, nat_eq, get_or, Option, Some}
 use Rattle.tcp_slots.specs.Ranks.{rank_at}
-use Rattle.tcp_connections.specs.declared.givers.Givers.{Givers}
+use Rattle.tcp_connections.specs.declared.givers.GapRanks.{GapRanks}
 
 -- the rank of a flow, by its blocks and its number: of two flows, the one that holds more blocks
 -- has the lesser rank, or, if they hold as many, the one of the lesser number
-abbrev pub rank_of : ℕ → ℕ → ℕ
+abbrev pub rank_of : (load number : ℕ) → ℕ
 rank_of load number = (2 ^ 64 - 1 - load) * 2 ^ 64 + number
 
 -- the number of a flow
-abbrev pub number_at : Givers → ℕ → ℕ
-number_at g id = get_or g.numbers.items id 0
+abbrev pub recency_of : (ranks : GapRanks) (id : ℕ) → ℕ
+recency_of g id = get_or g.numbers.items id 0
 
 -- the rank of a flow
-abbrev pub noted_at : Givers → ℕ → ℕ
-noted_at g id = rank_at g.ranks.slots g.ranks.nodes.items id
+abbrev pub noted_rank : (ranks : GapRanks) (id : ℕ) → ℕ
+noted_rank g id = rank_at g.ranks.slots g.ranks.nodes.items id
 
 -- The rank of a flow was set, by these blocks and its number. The number is the greatest if the
 -- last of all streams is the flow's; if not, it stays. Other flows keep theirs.
-pub record IsNoted (g g' : Givers) (id load : ℕ) (last : Option ℕ) : Type 0 where
-  pub flows : g'.ranks.slots ≡ g.ranks.slots
+pub record IsRankSet (old new : GapRanks) (id load : ℕ) (last : Option ℕ) : Type 0 where
+  pub flows : new.ranks.slots ≡ old.ranks.slots
   pub small : load < 2 ^ 64
-  pub ranks : (other : ℕ) → other < g.ranks.slots → noted_at g' other
-      ≡ cond (nat_eq other id) (rank_of load (number_at g' id)) (noted_at g other)
-  pub beside : (other : ℕ) → (other ≡ id → ⊥) → number_at g' other ≡ number_at g other
-  pub same : (last ≡ Some id → ⊥) → number_at g' id ≡ number_at g id
-  pub greatest : last ≡ Some id → id < g.ranks.slots →
-      (other : ℕ) → number_at g' other ≤ number_at g' id
+  pub ranks : (other : ℕ) → other < old.ranks.slots → noted_rank new other
+      ≡ cond (nat_eq other id) (rank_of load (recency_of new id)) (noted_rank old other)
+  pub beside : (other : ℕ) → (other ≡ id → ⊥) → recency_of new other ≡ recency_of old other
+  pub same : (last ≡ Some id → ⊥) → recency_of new id ≡ recency_of old id
+  pub greatest : last ≡ Some id → id < old.ranks.slots →
+      (other : ℕ) → recency_of new other ≤ recency_of new id

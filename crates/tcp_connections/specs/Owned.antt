@@ -26,13 +26,13 @@ pub data Standing : Type 0 where
   Live : endpoints.Flow → ℕ → Standing
 
 -- the flow that an id stands for
-abbrev pub owner : Standing → Option endpoints.Flow
+abbrev pub owner : (standing : Standing) → Option endpoints.Flow
 owner Unopened = None
 owner (Idle flow) = Some flow
 owner (Live flow due) = Some flow
 
 -- whether an event is of the flow of an id
-abbrev pub is_of : ℕ → Event → Bool
+abbrev pub is_of : (id : ℕ) (event : Event) → Bool
 is_of id (Opens flow endpoints) = nat_eq flow id
 is_of id (Begins flow start) = nat_eq flow id
 is_of id (Delivers flow octets) = nat_eq flow id
@@ -40,7 +40,7 @@ is_of id (Closes flow cause) = nat_eq flow id
 is_of id (OfCapture event) = false
 
 -- what an id stands for after an event of its flow: if it opens, it stands for these endpoints
-abbrev pub behind : Standing → Event → Standing
+abbrev pub behind : (standing : Standing) (event : Event) → Standing
 behind s (Opens id flow) = Idle flow
 behind (Idle flow) (Begins id start) = Live flow start.number
 behind (Live flow due) (Delivers id octets) = Live flow (onward due (length octets))
@@ -49,7 +49,7 @@ behind s event = s
 
 -- whether an event of the flow may come: octets come only while a stream is live, and are what a
 -- segment of the flow has from the number on that is due
-abbrev pub MayCome : List Segment → Standing → Event → Type 0
+abbrev pub MayCome : (segments : List Segment) (standing : Standing) (event : Event) → Type 0
 MayCome segments Unopened (Opens id flow) = Unit {0}
 MayCome segments (Idle before) (Opens id flow) = Unit {0}
 MayCome segments (Idle flow) (Begins id start) = Unit {0}
@@ -58,17 +58,18 @@ MayCome segments (Live flow due) (Closes id cause) = Unit {0}
 MayCome segments s event = ⊥
 
 -- what an id stands for after all events
-unfoldable pub standing : ℕ → Standing → List Event → Standing
+unfoldable pub standing : (id : ℕ) (standing : Standing) (events : List Event) → Standing
 standing id s [] = s
 standing id s (e ∷ es) = standing id (cond (is_of id e) (behind s e) s) es
 
 -- each event of the id's flow may come
-unfoldable pub AllMayCome : List Segment → ℕ → Standing → List Event → Type 0
+unfoldable pub AllMayCome : (segments : List Segment) (id : ℕ) (standing : Standing)
+    (events : List Event) → Type 0
 AllMayCome segments id s [] = Unit {0}
 AllMayCome segments id s (e ∷ es) =
     (is_of id e ≡ true → MayCome segments s e)
     × AllMayCome segments id (cond (is_of id e) (behind s e) s) es
 
 -- this is true of each id
-abbrev pub AreOwned : List Segment → List Event → Type 0
+abbrev pub AreOwned : (segments : List Segment) (events : List Event) → Type 0
 AreOwned segments events = (id : ℕ) → AllMayCome segments id Unopened events

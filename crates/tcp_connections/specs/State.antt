@@ -5,33 +5,34 @@ use Rattle.tcp_waiting.specs.Payload.{Payload, count_of, blocks_of, load_of}
 use Rattle.tcp_flow.specs.declared.flow.FlowState.{FlowState}
 use Rattle.tcp_flow.specs.declared.flow.ListenerError.{ListenerError}
 use Rattle.tcp_flow.specs.Flow.{Event}
-use Rattle.tcp_flow.specs.Laws.{IsSettled}
+use Rattle.tcp_flow.specs.Laws.{HoldsOnlyToCome}
 use Rattle.tcp_flow.specs.State.{state}
 use Rattle.tcp_connections.specs.declared.connections.Connections.{Connections}
-use Rattle.tcp_connections.specs.declared.givers.Givers.{Givers}
+use Rattle.tcp_connections.specs.declared.givers.GapRanks.{GapRanks}
 use Rattle.tcp_streams.specs.Pairs.{compare_pairs}
 use Rattle.tcp_streams.specs.Lives.{lives}
-use Rattle.tcp_connections.specs.Connections.{State, flow_at, live_at}
-use Rattle.tcp_connections.specs.Givers.{number_at, noted_at, rank_of}
+use Rattle.tcp_connections.specs.Connections.{State, flow_at, stream_start_at}
+use Rattle.tcp_connections.specs.Givers.{recency_of, noted_rank, rank_of}
 
 -- how often a number is in a list
-unfoldable pub times : ℕ → List ℕ → ℕ
-times n [] = 0
-times n (x ∷ xs) = cond (nat_eq x n) 1 0 + times n xs
+unfoldable pub times : (number : ℕ) (numbers : List ℕ) → ℕ
+times number [] = 0
+times number (x ∷ xs) = cond (nat_eq x number) 1 0 + times number xs
 
 -- one number stands before another in a list
-unfoldable pub StandBefore : ℕ → ℕ → List ℕ → Type 0
-StandBefore a b [] = ⊥
-StandBefore a b (x ∷ xs) = ((x ≡ a) × (0 < times b xs)) ⊎ StandBefore a b xs
+unfoldable pub StandBefore : (one other : ℕ) (numbers : List ℕ) → Type 0
+StandBefore one other [] = ⊥
+StandBefore one other (x ∷ xs) = ((x ≡ one) × (0 < times other xs)) ⊎ StandBefore one other xs
 
 -- Each flow has its rank. Of two flows, the one whose last stream began later has a number that is
 -- as great or greater.
-pub record AreRanked (g : Givers) (flows : ℕ) (held : List Payload) (live : List ℕ)
+pub record AreRanked (gap_ranks : GapRanks) (flows : ℕ) (held : List Payload) (live : List ℕ)
     : Type 0 where
-  pub many : g.ranks.slots ≡ flows
+  pub many : gap_ranks.ranks.slots ≡ flows
   pub loads : (id : ℕ) → load_of id held < 2 ^ 64
-  pub ranks : (id : ℕ) → id < flows → noted_at g id ≡ rank_of (load_of id held) (number_at g id)
-  pub order : (a b : ℕ) → StandBefore a b live → number_at g a ≤ number_at g b
+  pub ranks : (id : ℕ) → id < flows → noted_rank gap_ranks id
+      ≡ rank_of (load_of id held) (recency_of gap_ranks id)
+  pub order : (a b : ℕ) → StandBefore a b live → recency_of gap_ranks a ≤ recency_of gap_ranks b
 
 -- Each slot is that of one connection, or it is free and has no flows. The pairs are in order. Only
 -- flows that have begun hold something, and all of it is to come.
@@ -49,11 +50,11 @@ pub record IsSound (w : State) : Type 0 where
   pub order : IsStrictlySortedBy compare_pairs w.known
   pub ids : (id : ℕ) (s : FlowState) → flow_at w id ≡ Some s → s.id ≡ id
   pub settled :
-      (id : ℕ) (s : FlowState) → flow_at w id ≡ Some s → IsSettled (state s w.held [])
+      (id : ℕ) (s : FlowState) → flow_at w id ≡ Some s → HoldsOnlyToCome (state s w.held [])
   pub vacant : (id : ℕ) → flow_at w id ≡ None → count_of id w.held ≡ 0
 
 -- what the code has, together with what has happened
-abbrev pub state_of : Connections → List Event → State
+abbrev pub state_of : (connections : Connections) (events : List Event) → State
 state_of c events = record {
   ports = c.ports.items;
   blocks = c.pool.blocks;
@@ -73,20 +74,23 @@ state_of c events = record {
 -- The code has a state: the listener has observed all that has happened, and `streams` are the
 -- flows whose streams are live or were closed by a gap. Each flow in step is one of them. What is
 -- held takes at most `over` blocks more than there are. Each flow has its rank.
-pub record IsStateOver (over : ℕ) (O : List Event → Type 0) (streams : List ℕ) (c : Connections)
-    (w : State) : Type 0 where
-  pub observed : O w.events
-  pub live : streams ≡ lives w.events
-  pub same : state_of c w.events ≡ w
-  pub told : (id : ℕ) → is_some (live_at w id) ≡ true → 0 < times id (lives w.events)
-  pub sound : IsSound w
-  pub blocks : blocks_of w.held ≤ w.blocks + over
-  pub free : c.free.most ≡ length w.lasts
-  pub room : c.table.most ≡ length w.lasts
-  pub ranked : AreRanked c.givers (length w.flows) w.held (lives w.events)
+pub record IsStateOver (over : ℕ) (Observed : List Event → Type 0) (streams : List ℕ)
+    (connections : Connections)
+    (state : State) : Type 0 where
+  pub observed : Observed state.events
+  pub live : streams ≡ lives state.events
+  pub same : state_of connections state.events ≡ state
+  pub told : (id : ℕ) → is_some (stream_start_at state id) ≡ true →
+      0 < times id (lives state.events)
+  pub sound : IsSound state
+  pub blocks : blocks_of state.held ≤ state.blocks + over
+  pub free : connections.free.most ≡ length state.lasts
+  pub room : connections.table.most ≡ length state.lasts
+  pub ranked : AreRanked connections.givers (length state.flows) state.held (lives state.events)
 
 -- the blocks are enough, as they are between segments
-abbrev pub IsState : (List Event → Type 0) → List ℕ → Connections → State → Type 0
+abbrev pub IsState : (Observed : List Event → Type 0) (live : List ℕ) (connections : Connections)
+    (state : State) → Type 0
 IsState = IsStateOver 0
 
 -- the code has a state after the end of the capture, which needn't be sound
@@ -97,30 +101,34 @@ pub record IsAt (O : List Event → Type 0) (streams : List ℕ) (c : Connection
   pub same : state_of c w.events ≡ w
 
 -- the code has a state in which at most `over` blocks are missing
-abbrev pub HasStateOver : ℕ → (List Event → Type 0) → List ℕ → Connections → Type 0
-HasStateOver over O live c = (w : State) × IsStateOver over O live c w
+abbrev pub HasStateOver : (over : ℕ) (Observed : List Event → Type 0) (live : List ℕ)
+    (connections : Connections) → Type 0
+HasStateOver over Observed live c = (w : State) × IsStateOver over Observed live c w
 
 -- the code has a state
-abbrev pub HasState : (List Event → Type 0) → List ℕ → Connections → Type 0
+abbrev pub HasState : (Observed : List Event → Type 0) (live : List ℕ) (connections : Connections) →
+    Type 0
 HasState = HasStateOver 0
 
--- on Ok the code has the state that f makes of each that it had; at most `over` blocks were missing
--- before, and `rest` are afterwards
-abbrev pub MakesOver : ℕ → ℕ → {X : Type 0} → Result X ListenerError → (State → State)
-    → (List Event → Type 0) → List ℕ → Connections
-    → (List Event → Type 0) → List ℕ → Connections → Type 0
-MakesOver over rest r f O live c O' live' c' =
-    (w : State) → IsStateOver over O live c w → OnOk r (IsStateOver rest O' live' c' (f w))
+-- on Ok the code has the state that `step` makes of each that it had; at most `over` blocks were
+-- missing before, and `rest` are afterwards
+abbrev pub MakesOver : (over rest : ℕ) {X : Type 0} (result : Result X ListenerError)
+    (step : State → State) (Observed : List Event → Type 0) (live : List ℕ) (before : Connections)
+    (ObservedAfter : List Event → Type 0) (live_after : List ℕ) (after : Connections) → Type 0
+MakesOver over rest result step Observed live before ObservedAfter live_after after =
+    (w : State) → IsStateOver over Observed live before w → OnOk result
+    (IsStateOver rest ObservedAfter live_after after (step w))
 
 -- on Ok the code has the state that f makes of each that it had
-abbrev pub Makes : {X : Type 0} → Result X ListenerError → (State → State)
-    → (List Event → Type 0) → List ℕ → Connections
-    → (List Event → Type 0) → List ℕ → Connections → Type 0
+abbrev pub Makes : {X : Type 0} (result : Result X ListenerError) (step : State → State)
+    (Observed : List Event → Type 0) (live : List ℕ) (before : Connections)
+    (ObservedAfter : List Event → Type 0) (live_after : List ℕ) (after : Connections) → Type 0
 Makes = MakesOver 0 0
 
 -- the same at the end of the capture
-abbrev pub Ends : {X : Type 0} → Result X ListenerError → (State → State)
-    → (List Event → Type 0) → List ℕ → Connections
-    → (List Event → Type 0) → List ℕ → Connections → Type 0
-Ends r f O live c O' live' c' =
-    (w : State) → IsAt O live c w → OnOk r (IsAt O' live' c' (f w))
+abbrev pub Ends : {X : Type 0} (result : Result X ListenerError) (step : State → State)
+    (Observed : List Event → Type 0) (live : List ℕ) (before : Connections)
+    (ObservedAfter : List Event → Type 0) (live_after : List ℕ) (after : Connections) → Type 0
+Ends result step Observed live before ObservedAfter live_after after =
+    (w : State) → IsAt Observed live before w → OnOk result
+    (IsAt ObservedAfter live_after after (step w))

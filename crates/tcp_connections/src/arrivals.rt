@@ -8,13 +8,13 @@ ghost use Rattle.tcp_connections.specs.Connections.{first_number as spec_first_n
 ghost use Rattle.tcp_connections.specs.Connections.{number_behind as spec_number_behind};
 
 use crate::connections::Connections;
-use tcp_flow::{FlowState, Heard, Listener, ListenerError, is_beginning, stream_at};
+use tcp_flow::{FlowState, Heard, Listener, ListenerError, is_header_beginning, stream_begin_in};
 use tcp_segment::{Flow, Segment};
 use tcp_streams::Streams;
 use tcp_waiting::onward;
 
 impl Connections {
-    ghost use Rattle.tcp_connections.specs.Connections.{is_first, is_chosen, acknowledgement_heard, heard};
+    ghost use Rattle.tcp_connections.specs.Connections.{is_first_payload, has_chosen_port, acknowledgement_heard, heard};
     ghost use Rattle.tcp_connections.specs.Connections.{payload_taken, began, arrived, fin_taken};
     ghost use Rattle.tcp_connections.specs.Connections.{State, looked_through, is_looked_through};
     ghost use Rattle.tcp_flow.specs.Flow.{End, Octets};
@@ -22,7 +22,7 @@ impl Connections {
 
     /// Tells the opposite flow what a segment acknowledges of it, and whether the segment has
     /// octets.
-    pub(crate) fn acknowledgement<L: Listener + Drop>(
+    pub(crate) fn tell_acknowledgement<L: Listener + Drop>(
         &mut self,
         id: u32,
         segment: Segment<'_>,
@@ -59,12 +59,12 @@ impl Connections {
         if self.pool.len() == 0 {
             return Ok(());
         }
-        self.hear_of_flow(id, acknowledged, answers, to)
+        self.hear_while_waiting(id, acknowledged, answers, to)
     }
 
     /// Does what `hear` does if a payload waits.
     #[inline(never)]
-    fn hear_of_flow<L: Listener + Drop>(
+    fn hear_while_waiting<L: Listener + Drop>(
         &mut self,
         id: u32,
         acknowledged: Option<u32>,
@@ -95,7 +95,7 @@ impl Connections {
     }
 
     /// Takes a payload: the first of its flow, or a later one.
-    pub(crate) fn payload<L: Listener + Drop>(
+    pub(crate) fn take_payload<L: Listener + Drop>(
         &mut self,
         id: u32,
         segment: Segment<'_>,
@@ -111,19 +111,19 @@ impl Connections {
         ensures cause { OnErr result (L.failed to.new.listener) }
     {
         let Some(flow) = self.flow(id) else {
-            return self.first_payload(id, segment, to);
+            return self.take_first_payload(id, segment, to);
         };
         if segment.reset {
             return Ok(());
         }
-        self.later_payload(id, flow, segment, to)?;
+        self.take_later_payload(id, flow, segment, to)?;
         self.relieve(to)
     }
 
     /// Takes a payload of a flow that has begun. Afterwards what is held may take more blocks than
     /// there are.
     #[inline]
-    fn later_payload<L: Listener + Drop>(
+    fn take_later_payload<L: Listener + Drop>(
         &mut self,
         id: u32,
         mut flow: FlowState,
@@ -140,7 +140,7 @@ impl Connections {
             (L.observed to.new.listener) to.new.live.items self.new }
         ensures cause { OnErr result (L.failed to.new.listener) }
     {
-        flow.payload(
+        flow.payload_came(
             first_number(segment),
             segment.payload,
             self.arrival,
@@ -153,7 +153,7 @@ impl Connections {
     }
 
     /// Takes a payload of a flow for which nothing has come.
-    fn first_payload<L: Listener + Drop>(
+    fn take_first_payload<L: Listener + Drop>(
         &mut self,
         id: u32,
         segment: Segment<'_>,
@@ -169,22 +169,26 @@ impl Connections {
             (L.observed to.new.listener) to.new.live.items self.new }
         ensures cause { OnErr result (L.failed to.new.listener) }
     {
-        if !self.is_first(segment) {
-            self.pass(segment, to);
+        if !self.is_first_payload(segment) {
+            self.tell_looked_through(segment, to);
             return Ok(());
         }
-        self.begin(id, segment, to)
+        self.begin_flow(id, segment, to)
     }
 
     /// Tells that the payload of a segment was looked through and no stream begins in it, if it was
     /// looked through.
-    pub(crate) fn pass<L: Listener + Drop>(&self, segment: Segment<'_>, to: &mut Streams<L>)
+    pub(crate) fn tell_looked_through<L: Listener + Drop>(
+        &self,
+        segment: Segment<'_>,
+        to: &mut Streams<L>,
+    )
         ensures { (w : State) → IsState (L.observed to.old.listener) to.old.live.items self.now w
             → IsState (L.observed to.new.listener) to.new.live.items self.now
             (looked_through w (segment_view segment.entry)) }
     {
         if self.is_looked_through(segment) {
-            to.on_pass(segment.payload);
+            to.on_looked_through(segment.payload);
         }
     }
 
@@ -192,11 +196,11 @@ impl Connections {
     fn is_looked_through(&self, segment: Segment<'_>) -> bool
         ensures { result ≡ is_looked_through self.now.ports.items (segment_view segment.entry) }
     {
-        !segment.reset && self.is_chosen(segment.flow) && !segment.payload.is_empty()
+        !segment.reset && self.has_chosen_port(segment.flow) && !segment.payload.is_empty()
     }
 
     /// Begins a flow with its first payload.
-    pub(crate) fn begin<L: Listener + Drop>(
+    pub(crate) fn begin_flow<L: Listener + Drop>(
         &mut self,
         id: u32,
         segment: Segment<'_>,
@@ -230,17 +234,17 @@ impl Connections {
     /// Whether a segment's payload is the first of its flow, for which nothing has come. The
     /// segment has no RST, one of its ports is chosen, and a stream begins in the payload or it is
     /// a beginning of a header.
-    pub(crate) fn is_first(&self, segment: Segment<'_>) -> bool
-        ensures { result ≡ is_first self.now.ports.items (segment_view segment.entry) }
+    pub(crate) fn is_first_payload(&self, segment: Segment<'_>) -> bool
+        ensures { result ≡ is_first_payload self.now.ports.items (segment_view segment.entry) }
     {
         !segment.reset
-            && self.is_chosen(segment.flow)
-            && (stream_at(segment.payload).is_some() || is_beginning(segment.payload))
+            && self.has_chosen_port(segment.flow)
+            && (stream_begin_in(segment.payload).is_some() || is_header_beginning(segment.payload))
     }
 
     /// Whether one of a flow's ports is chosen. If no ports are named, all are.
-    fn is_chosen(&self, flow: Flow) -> bool
-        ensures { result ≡ is_chosen self.now.ports.items flow }
+    fn has_chosen_port(&self, flow: Flow) -> bool
+        ensures { result ≡ has_chosen_port self.now.ports.items flow }
     {
         self.ports.is_empty()
             || self.ports.contains(&flow.from.port)
@@ -249,7 +253,7 @@ impl Connections {
 
     /// Takes the FIN of a segment, if it has one.
     #[inline]
-    pub(crate) fn fin<L: Listener + Drop>(
+    pub(crate) fn take_fin<L: Listener + Drop>(
         &mut self,
         id: u32,
         segment: Segment<'_>,
@@ -264,13 +268,13 @@ impl Connections {
         if !segment.fin {
             return Ok(());
         }
-        self.fin_of_flow(id, number_behind(segment), to)
+        self.take_fin_of_flow(id, number_behind(segment), to)
     }
 
     /// Takes a FIN of a flow. Its number is that after the payload. There is no effect before the
     /// flow's first payload.
     #[inline(never)]
-    fn fin_of_flow<L: Listener + Drop>(
+    fn take_fin_of_flow<L: Listener + Drop>(
         &mut self,
         id: u32,
         number: u32,
@@ -285,7 +289,7 @@ impl Connections {
         let Some(mut flow) = self.flow(id) else {
             return Ok(());
         };
-        flow.fin(number, &mut self.pool, to)?;
+        flow.fin_came(number, &mut self.pool, to)?;
         self.flows.set(id, Some(flow));
         self.givers.note(id, &self.pool, to);
         Ok(())

@@ -9,7 +9,7 @@ use tcp_streams::Streams;
 impl Connections {
     ghost use Rattle.tcp_streams.specs.Lives.{lives};
     ghost use Rattle.tcp_connections.specs.Connections.{State, is_holding, end_cause, gapped};
-    ghost use Rattle.tcp_connections.specs.Connections.{closed_at, gaps_from, all_closed, ended, live_of};
+    ghost use Rattle.tcp_connections.specs.Connections.{closed_at, gaps_from, all_closed, ended, stream_start_of};
     ghost use Rattle.tcp_connections.specs.State.{IsState, IsAt, HasState, Makes, MakesOver, Ends};
 
     /// Ends the capture. While flows hold something, the one of them whose last stream began first
@@ -23,16 +23,19 @@ impl Connections {
             (ended L.reader w)) }
         ensures held { OnOk result (self.new.pool.held ≡ []) }
         ensures none { OnOk result ((id : ℕ) →
-            live_of (get_or self.new.flows.states.items id None) ≡ None) }
+            stream_start_of (get_or self.new.flows.states.items id None) ≡ None) }
         ensures cause { OnErr result (L.failed to.new.listener) }
     {
         to.pack();
-        self.end_gaps(to)?;
+        self.make_end_gaps(to)?;
         self.close_all(to)
     }
 
     /// While flows hold something, makes a gap in the one of them whose last stream began first.
-    fn end_gaps<L: Listener + Drop>(&mut self, to: &mut Streams<L>) -> Result<(), ListenerError>
+    fn make_end_gaps<L: Listener + Drop>(
+        &mut self,
+        to: &mut Streams<L>,
+    ) -> Result<(), ListenerError>
         requires state { HasState (L.observed to.old.listener) to.old.live.items self.old }
         ensures does { Makes result
             (λ w. gaps_from L.reader (length w.held + length (lives w.events)) 0 w)
@@ -52,7 +55,7 @@ impl Connections {
                 rank += 1;
                 continue;
             }
-            self.gap(id, to)?;
+            self.make_gap(id, to)?;
         }
         Ok(())
     }
@@ -63,13 +66,13 @@ impl Connections {
             ≡ is_holding self.now.pool.held (get_or self.now.flows.states.items id None) }
     {
         match self.flow(id) {
-            Some(flow) => flow.holds(&self.pool),
+            Some(flow) => flow.holds_payload(&self.pool),
             None => false,
         }
     }
 
     /// Makes a gap in a flow.
-    pub(crate) fn gap<L: Listener + Drop>(
+    pub(crate) fn make_gap<L: Listener + Drop>(
         &mut self,
         id: u32,
         to: &mut Streams<L>,
@@ -82,7 +85,7 @@ impl Connections {
         let Some(mut flow) = self.flow(id) else {
             return Ok(());
         };
-        flow.gap(&mut self.pool, to)?;
+        flow.make_gap(&mut self.pool, to)?;
         self.flows.set(id, Some(flow));
         self.givers.note(id, &self.pool, to);
         Ok(())

@@ -6,14 +6,14 @@ ghost use Rattle.std.specs.Prelude.{IfSome, IsTrue, OnOk, OnErr, Some, None, is_
 ghost use Rattle.std.specs.Vec.{vec_len};
 ghost use Rattle.tcp_segment.specs.Segments.{segment_view};
 ghost use Rattle.tcp_streams.specs.Pairs.{pair_of as spec_pair_of};
-ghost use Rattle.tcp_connections.specs.Connections.{is_kept as spec_is_kept, is_own as spec_is_own};
+ghost use Rattle.tcp_connections.specs.Connections.{is_syn_to_keep as spec_is_syn_to_keep, is_expected_number as spec_is_expected_number};
 ghost use Rattle.tcp_connections.specs.Connections.{is_near_due as spec_is_near_due};
-ghost use Rattle.tcp_connections.specs.Connections.{is_anew as spec_is_anew};
-ghost use Rattle.tcp_connections.specs.Connections.{is_answer as spec_is_answer};
-ghost use Rattle.tcp_connections.specs.Connections.{is_following as spec_is_following};
+ghost use Rattle.tcp_connections.specs.Connections.{begins_anew as spec_begins_anew};
+ghost use Rattle.tcp_connections.specs.Connections.{answers_syn as spec_answers_syn};
+ghost use Rattle.tcp_connections.specs.Connections.{follows_syn as spec_follows_syn};
 
 use crate::flows::Flows;
-use crate::givers::Givers;
+use crate::givers::GapRanks;
 use crate::guesses::Guesses;
 use crate::syns::{KeptSyn, KeptSyns};
 use arrayvec::ArrayVec;
@@ -21,7 +21,7 @@ use std::alloc::{AllocError, Global};
 use tcp_flow::{CloseCause, FlowState, Listener, ListenerError};
 use tcp_segment::Segment;
 use tcp_slots::{FreeSlots, SlotTable};
-use tcp_streams::{EndpointPair, Side, Streams, flow_from, flow_id, other, pair_of};
+use tcp_streams::{EndpointPair, Side, Streams, flow_from, flow_id, opposite_side, pair_of};
 use tcp_waiting::{Arrival, Pool, onward};
 
 /// The connections of a capture. The ids of a connection's flows depend on the slot that it has
@@ -34,7 +34,7 @@ pub struct Connections {
     pub(crate) syns: KeptSyns,
     pub(crate) flows: Flows,
     pub(crate) pool: Pool,
-    pub(crate) givers: Givers,
+    pub(crate) givers: GapRanks,
     segments: u64,
     /// The packet that is read.
     pub(crate) arrival: Arrival,
@@ -48,8 +48,8 @@ const BUCKETS: usize = 8;
 
 impl Connections {
     ghost use Rattle.tcp_flow.specs.Flow.{Event};
-    ghost use Rattle.tcp_connections.specs.Connections.{none_known, live_of, made_known, index_of};
-    ghost use Rattle.tcp_connections.specs.Connections.{index_among, next_slot, unknown_taken};
+    ghost use Rattle.tcp_connections.specs.Connections.{none_known, stream_start_of, made_known, index_of};
+    ghost use Rattle.tcp_connections.specs.Connections.{insertion_index, next_slot, unknown_taken};
     ghost use Rattle.tcp_connections.specs.Connections.{known_taken, step, syn_kept, with_packet, with_segment};
     ghost use Rattle.tcp_connections.specs.Known.{IsKnown};
     ghost use Rattle.tcp_connections.specs.State.{AreRanked, IsSound, HasState, Makes, state_of};
@@ -79,7 +79,7 @@ impl Connections {
         let syns = KeptSyns::new(alloc, most as usize)?;
         let flows = Flows::new(alloc, most)?;
         let pool = Pool::new(alloc, blocks, 2 * most as usize)?;
-        let givers = Givers::new(alloc, 2 * most as usize)?;
+        let givers = GapRanks::new(alloc, 2 * most as usize)?;
         let guesses = Guesses::new(alloc, BUCKETS * most as usize)?;
         Ok(Connections {
             ports,
@@ -100,7 +100,7 @@ impl Connections {
 
     /// Begins a packet, which came at a time in nanoseconds since 1970-01-01 UTC, if it has a time.
     /// The payloads that come next are of this packet.
-    pub fn read(&mut self, time: Option<u128>)
+    pub fn begin_packet(&mut self, time: Option<u128>)
         ensures does { (events : List Event) → state_of self.new events
             ≡ with_packet (state_of self.old events) time }
         ensures free { self.new.free.most ≡ self.old.free.most }
@@ -136,12 +136,12 @@ impl Connections {
         };
         self.guesses.note(bucket, slot);
         let id = flow_id(slot, side);
-        if self.is_kept(id, segment) {
+        if self.is_syn_to_keep(id, segment) {
             self.keep_syn(slot, id, segment);
             return Ok(());
         }
-        if self.is_anew(slot, id, segment) {
-            self.end_by(self.index_of(&pair), side, CloseCause::Syn, to)?;
+        if self.begins_anew(slot, id, segment) {
+            self.end_connection(self.index_of(&pair), side, CloseCause::Syn, to)?;
             return self.take_unknown(pair, side, segment, to);
         }
         self.take_known(pair, slot, side, segment, to)
@@ -170,10 +170,10 @@ impl Connections {
     {
         let id = flow_id(slot, side);
         self.note(slot, id);
-        self.acknowledgement(flow_id(slot, other(side)), segment, to)?;
-        self.payload(id, segment, to)?;
-        self.fin(id, segment, to)?;
-        self.reset(pair, slot, side, segment, to)?;
+        self.tell_acknowledgement(flow_id(slot, opposite_side(side)), segment, to)?;
+        self.take_payload(id, segment, to)?;
+        self.take_fin(id, segment, to)?;
+        self.take_reset(pair, slot, side, segment, to)?;
         self.hear(id, None, false, to)
     }
 
@@ -195,15 +195,15 @@ impl Connections {
             (L.observed to.new.listener) to.new.live.items self.new }
         ensures cause { OnErr result (L.failed to.new.listener) }
     {
-        if !self.is_first(segment) {
-            self.pass(segment, to);
+        if !self.is_first_payload(segment) {
+            self.tell_looked_through(segment, to);
             return Ok(());
         }
         self.make_room(to)?;
         let slot = self.make_known(pair, to)?;
         let id = flow_id(slot, side);
-        self.begin(id, segment, to)?;
-        self.fin(id, segment, to)
+        self.begin_flow(id, segment, to)?;
+        self.take_fin(id, segment, to)
     }
 
     /// Makes a connection known. Answers its slot.
@@ -232,8 +232,8 @@ impl Connections {
         self.syns.set(slot, None);
         let lesser = flow_id(slot, Side::FromLesser);
         let greater = flow_id(slot, Side::FromGreater);
-        to.on_open(lesser, flow_from(pair, Side::FromLesser))?;
-        to.on_open(greater, flow_from(pair, Side::FromGreater))?;
+        to.on_new_flow(lesser, flow_from(pair, Side::FromLesser))?;
+        to.on_new_flow(greater, flow_from(pair, Side::FromGreater))?;
         Ok(slot)
     }
 
@@ -298,7 +298,7 @@ impl Connections {
     fn index_for(&self, pair: &EndpointPair) -> usize
         requires sound { IsSound (state_of self.now []) }
         requires new { index_of pair.now self.now.table.keys ≡ None }
-        ensures index { result ≡ index_among pair.now self.now.table.keys }
+        ensures index { result ≡ insertion_index pair.now self.now.table.keys }
         ensures within { result ≤ length self.now.table.keys }
     {
         match self.table.index(pair) {
@@ -343,11 +343,11 @@ impl Connections {
     }
 
     /// The number that the stream of a flow begins with, if it is live or waited for.
-    pub(crate) fn live_at(&self, id: u32) -> Option<u32>
-        ensures { result ≡ live_of (get_or self.now.flows.states.items id None) }
+    pub(crate) fn stream_start_at(&self, id: u32) -> Option<u32>
+        ensures { result ≡ stream_start_of (get_or self.now.flows.states.items id None) }
     {
         match self.flow(id) {
-            Some(flow) => flow.live(),
+            Some(flow) => flow.stream_start(),
             None => None,
         }
     }
@@ -355,21 +355,22 @@ impl Connections {
     /// Whether a segment is a SYN that is kept: it has no ACK, and the number after it isn't the
     /// flow's own.
     #[inline]
-    fn is_kept(&self, id: u32, segment: Segment<'_>) -> bool
-        ensures { result ≡ spec_is_kept (get_or self.now.flows.states.items id None)
+    fn is_syn_to_keep(&self, id: u32, segment: Segment<'_>) -> bool
+        ensures { result ≡ spec_is_syn_to_keep (get_or self.now.flows.states.items id None)
             (segment_view segment.entry) }
     {
         segment.syn
             && segment.acknowledgement.is_none()
-            && !self.is_own(id, onward(segment.sequence, 1))
+            && !self.is_expected_number(id, onward(segment.sequence, 1))
     }
 
     /// Whether a number is a flow's own: it is near the one that is due, or the stream begins with
     /// it that is live or waited for.
-    fn is_own(&self, id: u32, number: u32) -> bool
-        ensures { result ≡ spec_is_own (get_or self.now.flows.states.items id None) number }
+    fn is_expected_number(&self, id: u32, number: u32) -> bool
+        ensures { result
+            ≡ spec_is_expected_number (get_or self.now.flows.states.items id None) number }
     {
-        self.is_near_due(id, number) || self.live_at(id) == Some(number)
+        self.is_near_due(id, number) || self.stream_start_at(id) == Some(number)
     }
 
     /// Whether a number is near the one that is due in a flow that has begun.
@@ -385,27 +386,27 @@ impl Connections {
     /// Whether a segment begins the connection of a slot anew: it answers the SYN that is kept, or
     /// follows it.
     #[inline]
-    fn is_anew(&self, slot: u32, id: u32, segment: Segment<'_>) -> bool
-        ensures { result ≡ spec_is_anew (get_or self.now.syns.kept.items slot None) id
+    fn begins_anew(&self, slot: u32, id: u32, segment: Segment<'_>) -> bool
+        ensures { result ≡ spec_begins_anew (get_or self.now.syns.kept.items slot None) id
             (segment_view segment.entry) }
     {
         match self.syns.at(slot) {
-            Some(syn) => is_answer(syn, id, segment) || is_following(syn, id, segment),
+            Some(syn) => answers_syn(syn, id, segment) || follows_syn(syn, id, segment),
             None => false,
         }
     }
 }
 
 /// Whether a segment of the opposite flow has SYN and ACK, and acknowledges a SYN.
-fn is_answer(syn: KeptSyn, id: u32, segment: Segment<'_>) -> bool
-    ensures { result ≡ spec_is_answer syn id (segment_view segment.entry) }
+fn answers_syn(syn: KeptSyn, id: u32, segment: Segment<'_>) -> bool
+    ensures { result ≡ spec_answers_syn syn id (segment_view segment.entry) }
 {
     syn.flow != id && segment.syn && segment.acknowledgement == Some(syn.number)
 }
 
 /// Whether a segment has the payload that follows a SYN of its flow.
-fn is_following(syn: KeptSyn, id: u32, segment: Segment<'_>) -> bool
-    ensures { result ≡ spec_is_following syn id (segment_view segment.entry) }
+fn follows_syn(syn: KeptSyn, id: u32, segment: Segment<'_>) -> bool
+    ensures { result ≡ spec_follows_syn syn id (segment_view segment.entry) }
 {
     syn.flow == id
         && segment.sequence == syn.number

@@ -6,7 +6,7 @@ ghost use Rattle.std.specs.Vec.{vec_len};
 ghost use Rattle.std.proofs.Props.{props};
 ghost use Rattle.tcp_slots.specs.Ranks.{rank_at};
 ghost use Rattle.tcp_connections.specs.Connections.{has_live as spec_has_live};
-ghost use Rattle.tcp_connections.specs.Ranks.{AreAtMost, IsBeforeAll, is_before, rank_among, class_among, is_live_among, is_both_among, has_come_among};
+ghost use Rattle.tcp_connections.specs.Ranks.{AreAtMost, IsBeforeAll, is_before, rank_among, room_class_among, is_live_among, both_have_come_among, has_come_among};
 
 use crate::came::Came;
 use std::alloc::{AllocError, Global};
@@ -69,7 +69,7 @@ impl Flows {
         if (id as usize) < self.states.len() {
             self.states[id as usize] = flow;
             if !lives(flow) {
-                settle(
+                note_true_rank(
                     &self.states,
                     &self.came,
                     &self.stamps,
@@ -91,7 +91,7 @@ impl Flows {
         self.stamps.note(id / 2, stamp);
         self.came.set(id, true);
         if stamp < before {
-            settle(
+            note_true_rank(
                 &self.states,
                 &self.came,
                 &self.stamps,
@@ -113,7 +113,7 @@ impl Flows {
         self.stamps.note(slot, stamp);
         self.came.set(2 * slot, false);
         self.came.set(2 * slot + 1, false);
-        settle(
+        note_true_rank(
             &self.states,
             &self.came,
             &self.stamps,
@@ -123,18 +123,18 @@ impl Flows {
     }
 
     /// The slot whose connection makes room before all others. None if the ranks don't tell it.
-    pub fn first_slot(&mut self) -> Option<u32>
+    pub fn slot_that_makes_room(&mut self) -> Option<u32>
         ensures some { IfSome result (λ slot. IsBeforeAll self.old.states.items
             self.old.came.ids.items self.old.stamps.last.items slot) }
         ensures states { self.new.states.items ≡ self.old.states.items }
         ensures came { self.new.came ≡ self.old.came }
         ensures stamps { self.new.stamps ≡ self.old.stamps }
     {
-        first_settled(&self.states, &self.came, &self.stamps, &mut self.ranks)
+        slot_of_least_true_rank(&self.states, &self.came, &self.stamps, &mut self.ranks)
     }
 
     /// Whether the connection of one slot makes room before that of another.
-    pub fn goes_before(&self, slot: u32, other: u32) -> bool
+    pub fn makes_room_before(&self, slot: u32, other: u32) -> bool
         requires slot { slot < vec_len self.now.stamps.last }
         requires other { other < vec_len self.now.stamps.last }
         ensures { result ≡ is_before self.now.states.items self.now.came.ids.items
@@ -148,7 +148,7 @@ impl Flows {
 /// The slot of the least rank, if that is its true rank. If not, the true one is noted, and the
 /// next slot is looked at. Each slot is noted once at most. A rank rises only with a segment, so
 /// there are fewer ranks to note than segments.
-fn first_settled(
+fn slot_of_least_true_rank(
     states: &[Option<FlowState>],
     came: &Came,
     stamps: &Stamps,
@@ -166,13 +166,13 @@ fn first_settled(
 {
     let mut left = states.len();
     while left > 0 {
-        let Some(slot) = ranks.first() else {
+        let Some(slot) = ranks.unique_least() else {
             return None;
         };
         if ranks.rank(slot) == rank_of(states, came, stamps, slot) {
             return Some(slot);
         }
-        settle(states, came, stamps, ranks, slot);
+        note_true_rank(states, came, stamps, ranks, slot);
         left -= 1;
     }
     None
@@ -180,7 +180,13 @@ fn first_settled(
 
 /// Notes the true rank of a slot.
 #[inline(never)]
-fn settle(states: &[Option<FlowState>], came: &Came, stamps: &Stamps, ranks: &mut Ranks, slot: u32)
+fn note_true_rank(
+    states: &[Option<FlowState>],
+    came: &Came,
+    stamps: &Stamps,
+    ranks: &mut Ranks,
+    slot: u32,
+)
     requires within { slot < vec_len stamps.now.last }
     requires small { slot < 2 ^ 31 }
     ensures slots { ranks.new.slots ≡ ranks.old.slots }
@@ -198,7 +204,7 @@ fn rank_of(states: &[Option<FlowState>], came: &Came, stamps: &Stamps, slot: u32
     requires small { slot < 2 ^ 31 }
     ensures { result ≡ rank_among states.now came.now.ids.items stamps.now.last.items slot }
 {
-    u128::from(class_of(states, came, slot)) * CLASS + u128::from(stamps.last(slot))
+    u128::from(room_class_of(states, came, slot)) * CLASS + u128::from(stamps.last(slot))
 }
 
 /// Whether a flow has a live stream.
@@ -214,15 +220,19 @@ fn lives(flow: Option<FlowState>) -> bool
 
 /// How late the connection of a slot makes room: 0 without a live stream, 1 if segments of one flow
 /// alone came, and 2 for any other.
-fn class_of(states: &[Option<FlowState>], came: &Came, slot: u32) -> u32
+fn room_class_of(states: &[Option<FlowState>], came: &Came, slot: u32) -> u32
     requires { slot < 2 ^ 31 }
-    ensures class { result ≡ class_among states.now came.now.ids.items slot }
+    ensures class { result ≡ room_class_among states.now came.now.ids.items slot }
     ensures bound { result ≤ 2 }
 {
     if !is_live(states, slot) {
         return 0;
     }
-    if is_both(states, came, slot) { 2 } else { 1 }
+    if both_have_come(states, came, slot) {
+        2
+    } else {
+        1
+    }
 }
 
 /// Whether the connection of a slot has a live stream.
@@ -234,9 +244,9 @@ fn is_live(states: &[Option<FlowState>], slot: u32) -> bool
 }
 
 /// Whether segments of both flows of a slot's connection came since it became known.
-fn is_both(states: &[Option<FlowState>], came: &Came, slot: u32) -> bool
+fn both_have_come(states: &[Option<FlowState>], came: &Came, slot: u32) -> bool
     requires { slot < 2 ^ 31 }
-    ensures { result ≡ is_both_among states.now came.now.ids.items slot }
+    ensures { result ≡ both_have_come_among states.now came.now.ids.items slot }
 {
     has_come(states, came, 2 * slot) && has_come(states, came, 2 * slot + 1)
 }

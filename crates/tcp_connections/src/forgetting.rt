@@ -8,18 +8,18 @@ ghost use Rattle.tcp_waiting.specs.Payload.{count_of};
 use crate::connections::Connections;
 use tcp_flow::{CloseCause, Listener, ListenerError};
 use tcp_segment::Segment;
-use tcp_streams::{EndpointPair, Side, Streams, flow_id, other};
+use tcp_streams::{EndpointPair, Side, Streams, flow_id, opposite_side};
 
 impl Connections {
     ghost use Rattle.tcp_flow.specs.Flow.{Event};
-    ghost use Rattle.tcp_connections.specs.Connections.{goes_before, eldest, reset_taken};
+    ghost use Rattle.tcp_connections.specs.Connections.{makes_room_before, eldest, reset_taken};
     ghost use Rattle.tcp_connections.specs.Connections.{flow_forgotten, forgotten, with_room};
     ghost use Rattle.tcp_connections.specs.Connections.{cleared, emptied, ended_by, shown};
     ghost use Rattle.tcp_connections.specs.Known.{IsKnown};
     ghost use Rattle.tcp_connections.specs.State.{IsSound, HasState, Makes, state_of};
 
     /// Takes the RST of a segment, if it has one. If the RST counts, the connection is forgotten.
-    pub(crate) fn reset<L: Listener + Drop>(
+    pub(crate) fn take_reset<L: Listener + Drop>(
         &mut self,
         pair: EndpointPair,
         slot: u32,
@@ -43,11 +43,11 @@ impl Connections {
         if !self.is_near_due(flow_id(slot, side), segment.sequence) {
             return Ok(());
         }
-        self.end_by(self.index_of(&pair), side, CloseCause::Reset, to)
+        self.end_connection(self.index_of(&pair), side, CloseCause::Reset, to)
     }
 
     /// Shows what a connection holds and forgets it, because of a segment of one side.
-    pub(crate) fn end_by<L: Listener + Drop>(
+    pub(crate) fn end_connection<L: Listener + Drop>(
         &mut self,
         index: usize,
         side: Side,
@@ -62,13 +62,13 @@ impl Connections {
         ensures cause { OnErr result (L.failed to.new.listener) }
     {
         let slot = self.table.slot(index);
-        self.show(slot, side, to)?;
-        self.forget(index, side, cause, to)
+        self.show_held(slot, side, to)?;
+        self.forget_connection(index, side, cause, to)
     }
 
     /// Shows what the flows of a slot hold, before its connection is forgotten. The flow of this
     /// side is the first.
-    fn show<L: Listener + Drop>(
+    fn show_held<L: Listener + Drop>(
         &mut self,
         slot: u32,
         side: Side,
@@ -81,12 +81,12 @@ impl Connections {
             (L.observed to.new.listener) to.new.live.items self.new }
         ensures cause { OnErr result (L.failed to.new.listener) }
     {
-        self.empty(flow_id(slot, side), to)?;
-        self.empty(flow_id(slot, other(side)), to)
+        self.empty_flow(flow_id(slot, side), to)?;
+        self.empty_flow(flow_id(slot, opposite_side(side)), to)
     }
 
     /// Makes gaps in a flow until it holds nothing.
-    fn empty<L: Listener + Drop>(
+    fn empty_flow<L: Listener + Drop>(
         &mut self,
         id: u32,
         to: &mut Streams<L>,
@@ -103,14 +103,14 @@ impl Connections {
             if !self.is_holding(id) {
                 return Ok(());
             }
-            self.gap(id, to)?;
+            self.make_gap(id, to)?;
             left -= 1;
         }
         Ok(())
     }
 
     /// Forgets a connection: first the flow of this side, then the other.
-    pub(crate) fn forget<L: Listener + Drop>(
+    pub(crate) fn forget_connection<L: Listener + Drop>(
         &mut self,
         index: usize,
         side: Side,
@@ -126,7 +126,7 @@ impl Connections {
     {
         let slot = self.table.slot(index);
         self.forget_flow(flow_id(slot, side), cause, to)?;
-        self.forget_flow(flow_id(slot, other(side)), cause, to)?;
+        self.forget_flow(flow_id(slot, opposite_side(side)), cause, to)?;
         self.table.forget(index);
         self.free.give_back(slot);
         Ok(())
@@ -149,7 +149,7 @@ impl Connections {
             return Ok(());
         };
         flow.close(cause, to)?;
-        flow.forget(&mut self.pool);
+        flow.remove_held(&mut self.pool);
         self.flows.set(id, None);
         self.givers.note(id, &self.pool, to);
         Ok(())
@@ -170,12 +170,12 @@ impl Connections {
             return Ok(());
         }
         let index = self.find_eldest();
-        self.clear(index, to)
+        self.clear_connection(index, to)
     }
 
     /// Shows what the connection at an index holds and forgets it. Of its flows, the one whose
     /// stream began first comes first.
-    fn clear<L: Listener + Drop>(
+    fn clear_connection<L: Listener + Drop>(
         &mut self,
         index: usize,
         to: &mut Streams<L>,
@@ -188,8 +188,8 @@ impl Connections {
         ensures cause { OnErr result (L.failed to.new.listener) }
     {
         let slot = self.table.slot(index);
-        self.show(slot, to.elder_side(slot), to)?;
-        self.forget(index, to.elder_side(slot), CloseCause::Room, to)
+        self.show_held(slot, to.elder_side(slot), to)?;
+        self.forget_connection(index, to.elder_side(slot), CloseCause::Room, to)
     }
 
     /// The index of the connection that makes room: found by the ranks, or by looking at all if two
@@ -205,16 +205,16 @@ impl Connections {
         ensures room { self.new.table.most ≡ self.old.table.most }
         ensures givers { self.new.givers ≡ self.old.givers }
     {
-        if let Some(slot) = self.flows.first_slot()
+        if let Some(slot) = self.flows.slot_that_makes_room()
             && let Some(index) = self.table.index_of_slot(slot)
         {
             return index;
         }
-        self.walk()
+        self.eldest_by_walk()
     }
 
     /// The index of the connection that makes room, found by looking at all.
-    fn walk(&self) -> usize
+    fn eldest_by_walk(&self) -> usize
         requires sound { IsSound (state_of self.now []) }
         requires some { 0 < length self.now.table.keys }
         ensures index { result ≡ eldest (state_of self.now []) (length self.now.table.keys) }
@@ -234,10 +234,11 @@ impl Connections {
         requires sound { IsSound (state_of self.now []) }
         requires index { index < length self.now.table.keys }
         requires within { best < length self.now.table.keys }
-        ensures index { result ≡ cond (goes_before (state_of self.now []) index best) index best }
+        ensures index { result
+            ≡ cond (makes_room_before (state_of self.now []) index best) index best }
         ensures within { result < length self.now.table.keys }
     {
-        if self.goes_before(index, best) {
+        if self.makes_room_before(index, best) {
             index
         } else {
             best
@@ -245,13 +246,13 @@ impl Connections {
     }
 
     /// Whether the connection at one index makes room before that at another.
-    fn goes_before(&self, index: usize, other: usize) -> bool
+    fn makes_room_before(&self, index: usize, other: usize) -> bool
         requires sound { IsSound (state_of self.now []) }
         requires index { index < length self.now.table.keys }
         requires other { other < length self.now.table.keys }
-        ensures { result ≡ goes_before (state_of self.now []) index other }
+        ensures { result ≡ makes_room_before (state_of self.now []) index other }
     {
         self.flows
-            .goes_before(self.table.slot(index), self.table.slot(other))
+            .makes_room_before(self.table.slot(index), self.table.slot(other))
     }
 }

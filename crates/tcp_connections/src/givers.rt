@@ -9,7 +9,7 @@ use tcp_slots::Ranks;
 
 /// The rank of each flow. The flow that gives up has the least rank.
 #[derive(Drop)]
-pub struct Givers {
+pub struct GapRanks {
     pub(crate) ranks: Ranks,
     /// A number for each flow. The later its last stream began, the greater it is.
     pub(crate) numbers: Vec<u64>,

@@ -53,10 +53,11 @@ impl Guesses {
 
 /// The last two octets of an endpoint's address, and then its port.
 fn number_of(endpoint: Endpoint) -> u32 {
-    let [high, low] = match endpoint.address {
-        Address::V4(octets) => [octets[2], octets[3]],
-        Address::V6(octets) => [octets[14], octets[15]],
+    let address = match endpoint.address {
+        Address::V4(octets) => u32::from_be_bytes(octets),
+        Address::V6(octets) => {
+            u32::from_be_bytes([octets[12], octets[13], octets[14], octets[15]])
+        }
     };
-    let [first, second] = endpoint.port.to_be_bytes();
-    u32::from_be_bytes([high, low, first, second])
+    address << 16 | u32::from(endpoint.port)
 }

@@ -30,8 +30,8 @@ impl Connections {
             if self.pool.blocks_in_use() <= self.pool.blocks() {
                 return Ok(());
             }
-            let id = self.giver(to);
-            self.gap(id, to)?;
+            let id = self.find_heaviest(to);
+            self.make_gap(id, to)?;
             left -= 1;
         }
         Ok(())
@@ -40,23 +40,23 @@ impl Connections {
     /// The flow that holds the most blocks. If several hold as many, it is the one whose last
     /// stream began first. It is found by the ranks, or by looking at each flow if two have the
     /// least rank.
-    fn giver<L: Listener + Drop>(&self, to: &mut Streams<L>) -> u32
+    fn find_heaviest<L: Listener + Drop>(&self, to: &mut Streams<L>) -> u32
         requires state { HasStateOver 256 (L.observed to.old.listener) to.old.live.items self.now }
         ensures is { result ≡ heaviest_from self.now.pool.held (get_or to.old.live.items 0 0)
             to.old.live.items }
         ensures live { to.new.live ≡ to.old.live }
         ensures listener { to.new.listener ≡ to.old.listener }
     {
-        if let Some(id) = self.givers.first()
+        if let Some(id) = self.givers.unique_least()
             && self.pool.load(id) > 0
         {
             return id;
         }
-        self.heaviest(to)
+        self.heaviest_by_walk(to)
     }
 
     /// The same flow, found by looking at each flow whose stream is live or was closed by a gap.
-    fn heaviest<L: Listener + Drop>(&self, to: &mut Streams<L>) -> u32
+    fn heaviest_by_walk<L: Listener + Drop>(&self, to: &mut Streams<L>) -> u32
         ensures is { result ≡ heaviest_from self.now.pool.held (get_or to.old.live.items 0 0)
             to.old.live.items }
         ensures live { to.new.live ≡ to.old.live }

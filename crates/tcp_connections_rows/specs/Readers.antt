@@ -3,7 +3,7 @@ use Rattle.std.specs.Prelude.{ℕ, cond, nat_eq, List, [], ◌∷◌, Option, So
 use Rattle.tcp_flow.specs.Flow.{Event, Opens, Begins, Delivers, Closes, OfCapture, Reader}
 
 -- a reader is at a fault at its 13th octet if what it is given begins with the octet 255
-abbrev pub fault_in : List ℕ → Option ℕ
+abbrev pub fault_in : (octets : List ℕ) → Option ℕ
 fault_in [] = None
 fault_in (x ∷ xs) = cond (nat_eq x 255) (Some 13) None
 
@@ -16,7 +16,7 @@ fault_of (Closes id cause) = None
 fault_of (OfCapture event) = None
 
 -- the fault that the last of all events brings
-unfoldable pub last_fault : List Event → Option ℕ
+unfoldable pub last_fault : (events : List Event) → Option ℕ
 last_fault [] = None
 last_fault (e ∷ []) = fault_of e
 last_fault (e ∷ d ∷ es) = last_fault (d ∷ es)

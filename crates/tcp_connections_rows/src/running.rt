@@ -34,7 +34,7 @@ pub fn told_of(alloc: Global, row: &Row, left: usize) -> Option<Teller> {
         let Some(segment) = steps[index].segment() else {
             return None;
         };
-        known.read(steps[index].time);
+        known.begin_packet(steps[index].time);
         if known.take(segment, &mut streams).is_err() {
             return Some(streams.listener);
         }

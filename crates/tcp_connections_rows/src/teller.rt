@@ -112,13 +112,13 @@ impl Listener for Teller {
 
     ghost reader = { plain_reader };
 
-    fn on_open(&mut self, flow: u32, endpoints: Flow) -> Result<(), ListenerError> {
+    fn on_new_flow(&mut self, flow: u32, endpoints: Flow) -> Result<(), ListenerError> {
         self.tell(Told::Opens(flow, endpoints))
     }
 
     fn on_arrival(&mut self, _arrival: Arrival) {}
 
-    fn on_pass(&mut self, octets: &[u8]) {
+    fn on_looked_through(&mut self, octets: &[u8]) {
         // It can't say that it fails: it does at what is told next.
         let _told = self.tell(Told::Passes(octets));
     }
@@ -132,7 +132,7 @@ impl Listener for Teller {
         Ok(fault_at(octets))
     }
 
-    fn lacks(&mut self, _flow: u32) -> Result<Option<u32>, ListenerError> {
+    fn message_lacks(&mut self, _flow: u32) -> Result<Option<u32>, ListenerError> {
         Ok(None)
     }
 

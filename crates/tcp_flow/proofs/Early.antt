@@ -10,26 +10,26 @@ use Rattle.tcp_waiting.proofs.Held.{all_at}
 use Rattle.tcp_flow.specs.declared.hearing.Heard.{Heard}
 use Rattle.tcp_flow.specs.Flow.{acknowledges, gives_up, second}
 
-abbrev between : Option ℕ → Option ℕ → Option ℕ
+abbrev between : (came now : Option ℕ) → Option ℕ
 between came now =
     elim came [ None ↦ None | Some before ↦ option_map (λ time. time - before) now ]
 
 -- whether a packet gives up what is missing, by when it and the payload came
-abbrev by_times : Bool → Bool → Option ℕ → Option ℕ → Bool
-by_times a b came now =
+abbrev gives_up_by_times : (acknowledges answers : Bool) (came now : Option ℕ) → Bool
+gives_up_by_times a b came now =
     elim (between came now) [
       | None ↦ a
       | Some time ↦ (a && (b || nat_le second time)) || nat_le (30 * second) time
     ]
 
 timeless : (a b : Bool) (came now : Option ℕ) → a ≡ false → now ≡ None →
-    by_times a b came now ≡ false
+    gives_up_by_times a b came now ≡ false
 timeless a b None now e is = e
 timeless a b (Some before) now e is = rw is e
 
 early : (a b : Bool) (came now : Option ℕ) (time : ℕ) → a ≡ false → now ≡ Some time →
     ((before : ℕ) → came ≡ Some before → time - before < 30 * second)
-    → by_times a b came now ≡ false
+    → gives_up_by_times a b came now ≡ false
 early a b None now time e is young = e
 early a b (Some before) now time e is young =
     rw (is, e) (lt-leb (30 * second) (time - before) (young before refl))

@@ -4,13 +4,13 @@ use Rattle.std.specs.Option.{option_map}
 use Rattle.std.proofs.lemmas.Bool.{cases_lt, and_parts, ltb-true, lt-ltb, le-ltb, true≢false, eqb-false, cases_Bool}
 use Rattle.std.proofs.lemmas.List.{get_or_default}
 use Rattle.tcp_waiting.specs.Numbers.{is_to_come, rank}
-use Rattle.tcp_waiting.specs.Payload.{Payload, no_payload, earlier, first}
+use Rattle.tcp_waiting.specs.Payload.{Payload, no_payload, oldest_with, oldest_index}
 use Rattle.tcp_waiting.proofs.Order.{first_within}
 use Rattle.tcp_flow.specs.Laws.{AreLater}
 
 earlier_some : (next : ℕ) (p : Payload) (ps : List Payload) (r : Option ℕ) →
-    is_some (earlier next p ps r) ≡ true
-unfolding earlier
+    is_some (oldest_with next p ps r) ≡ true
+unfolding oldest_with
 earlier_some next p ps None = refl
 earlier_some next p ps (Some k) = search (arith, nat_lt, get_or, is_some, cond)
 
@@ -19,24 +19,25 @@ map_some None = refl
 map_some (Some k) = refl
 
 some_by : (c : Bool) (next : ℕ) (p : Payload) (ps : List Payload) (r : Option ℕ) →
-    is_some (cond c (earlier next p ps r) (option_map suc r)) ≡ (c || is_some r)
+    is_some (cond c (oldest_with next p ps r) (option_map suc r)) ≡ (c || is_some r)
 some_by true next p ps r = earlier_some next p ps r
 some_by false next p ps r = map_some r
 
 pub first_some : (id next : ℕ) (p : Payload) (ps : List Payload) →
-    is_some (first id next (p ∷ ps)) ≡ (nat_eq p.flow id || is_some (first id next ps))
-unfolding first
+    is_some (oldest_index id next (p ∷ ps)) ≡
+    (nat_eq p.flow id || is_some (oldest_index id next ps))
+unfolding oldest_index
 first_some id next p ps = search (arith, some_by, nat_eq)
 
 -- a rank below that of the first is below those of all
 later_by : (id next n : ℕ) (p : Payload) (ps : List Payload) (c : Bool) (r : Option ℕ) →
-    nat_eq p.flow id ≡ c → first id next ps ≡ r
-    → (IfSome (first id next ps) (λ i. n < rank next (get_or ps i no_payload).number) →
+    nat_eq p.flow id ≡ c → oldest_index id next ps ≡ r
+    → (IfSome (oldest_index id next ps) (λ i. n < rank next (get_or ps i no_payload).number) →
     AreLater id next n ps)
-    → IfSome (cond c (earlier next p ps r) (option_map suc r))
+    → IfSome (cond c (oldest_with next p ps r) (option_map suc r))
     (λ i. n < rank next (get_or (p ∷ ps) i no_payload).number)
     → AreLater id next n (p ∷ ps)
-unfolding AreLater earlier
+unfolding AreLater oldest_with
 later_by id next n p ps true None e f rest h = ((λ x. h), rest (rw f tt))
 later_by id next n p ps true (Some k) e f rest h =
     let within : k < length ps = rw f at (first_within id next ps) in
@@ -63,11 +64,12 @@ later_by id next n p ps false None e f rest h = search (arith, eqb-false)
 later_by id next n p ps false (Some k) e f rest h = search (arith, eqb-false)
 
 pub later_least : (id next n : ℕ) (ps : List Payload) →
-    IfSome (first id next ps) (λ i. n < rank next (get_or ps i no_payload).number) →
+    IfSome (oldest_index id next ps) (λ i. n < rank next (get_or ps i no_payload).number) →
     AreLater id next n ps
-unfolding AreLater first
+unfolding AreLater oldest_index
 later_least id next n [] h = tt
-later_least id next n (p ∷ ps) h = later_by id next n p ps (nat_eq p.flow id) (first id next ps)
+later_least id next n (p ∷ ps) h = later_by id next n p ps (nat_eq p.flow id)
+    (oldest_index id next ps)
     refl refl (later_least id next n ps) h
 
 later_at : (id next n : ℕ) (ps : List Payload) (i : ℕ) → AreLater id next n ps → i < length ps →
@@ -78,7 +80,7 @@ later_at id next n (p ∷ ps) zero h l own = h.0 own
 later_at id next n (p ∷ ps) (suc i) h l own = later_at id next n ps i h.1 (omega (arith, l)) own
 
 -- no payload is older than the first one
-pub first_least : (id next : ℕ) (ps : List Payload) (i j : ℕ) → first id next ps ≡ Some j →
+pub first_least : (id next : ℕ) (ps : List Payload) (i j : ℕ) → oldest_index id next ps ≡ Some j →
     i < length ps → (get_or ps i no_payload).flow ≡ id →
     rank next (get_or ps j no_payload).number ≤ rank next (get_or ps i no_payload).number
 first_least id next ps i j e l own =
@@ -93,8 +95,8 @@ first_least id next ps i j e l own =
 
 -- whether a flow holds something doesn't depend on the number that is due
 pub first_anywhere : (id a b : ℕ) (ps : List Payload) →
-    is_some (first id a ps) ≡ is_some (first id b ps)
-unfolding first
+    is_some (oldest_index id a ps) ≡ is_some (oldest_index id b ps)
+unfolding oldest_index
 first_anywhere id a b [] = refl
 first_anywhere id a b (p ∷ ps) = search (arith, first_some, nat_eq, first_anywhere id a b ps)
 
@@ -107,7 +109,7 @@ come_by_rank next n h = search (arith, lt-ltb)
 -- if a payload of a flow isn't to come, the first one isn't
 pub first_reached : (id next : ℕ) (ps : List Payload) (i j : ℕ) →
     is_to_come next (get_or ps i no_payload).number ≡ false → i < length ps →
-    (get_or ps i no_payload).flow ≡ id → first id next ps ≡ Some j →
+    (get_or ps i no_payload).flow ≡ id → oldest_index id next ps ≡ Some j →
     is_to_come next (get_or ps j no_payload).number ≡ false
 first_reached id next ps i j past l own e = search (
   arith,

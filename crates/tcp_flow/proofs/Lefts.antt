@@ -1,6 +1,6 @@
 -- What is left of a payload, and small facts on tests.
 use Rattle.std.specs.Option.{option_map}
-use Rattle.tcp_flow.specs.Flow.{is_header, header_at}
+use Rattle.tcp_flow.specs.Flow.{is_header, index_of_header}
 use Rattle.std.proofs.Common.{◌≡◌, ℕ, suc, ◌+◌, ◌∷◌, get_or, true, false, Option, Some, None, add-one, ◌-◌, ◌<◌, ◌≤◌, min, List, [], length, take, drop, refl, sym, ◌∙◌, ap, subst, arith, inl, inr}
 use Rattle.std.proofs.lemmas.List.{length-drop}
 use Rattle.std.proofs.Math.ListN.{drop_of_length-le}
@@ -24,8 +24,8 @@ cut a m xs e =
     ]
 
 pub header_here : (xs : List ℕ) (i : ℕ) → i < length xs → is_header (drop i xs) ≡ true →
-    header_at (drop i xs) ≡ Some 0
-unfolding header_at
+    index_of_header (drop i xs) ≡ Some 0
+unfolding index_of_header
 header_here xs i h e = search (arith, drop, get_or, drop-cons, cond-true)
 
 shifted : (i : ℕ) (r : Option ℕ) → option_map (λ (k : ℕ). i + k) (option_map suc r)
@@ -34,23 +34,23 @@ shifted i None = refl
 shifted i (Some k) = search (arith)
 
 pub header_later : (xs : List ℕ) (i : ℕ) → i < length xs → is_header (drop i xs) ≡ false →
-    option_map (λ (k : ℕ). i + k) (header_at (drop i xs))
-    ≡ option_map (λ (k : ℕ). i + 1 + k) (header_at (drop (i + 1) xs))
-unfolding header_at
+    option_map (λ (k : ℕ). i + k) (index_of_header (drop i xs))
+    ≡ option_map (λ (k : ℕ). i + 1 + k) (index_of_header (drop (i + 1) xs))
+unfolding index_of_header
 header_later xs i h e =
     let d : drop i xs ≡ get_or xs i 0 ∷ drop (suc i) xs = drop-cons xs i 0 h in
     let f : is_header (get_or xs i 0 ∷ drop (suc i) xs) ≡ false =
     subst (λ (ys : List ℕ). is_header ys ≡ false) d e in
-    let s : header_at (get_or xs i 0 ∷ drop (suc i) xs)
-    ≡ option_map suc (header_at (drop (suc i) xs)) =
+    let s : index_of_header (get_or xs i 0 ∷ drop (suc i) xs)
+    ≡ option_map suc (index_of_header (drop (suc i) xs)) =
     cond-false (is_header (get_or xs i 0 ∷ drop (suc i) xs)) (Some 0)
-    (option_map suc (header_at (drop (suc i) xs))) f in
-    let t : header_at (drop i xs) ≡ option_map suc (header_at (drop (i + 1) xs)) =
+    (option_map suc (index_of_header (drop (suc i) xs))) f in
+    let t : index_of_header (drop i xs) ≡ option_map suc (index_of_header (drop (i + 1) xs)) =
     rw (add-one, d) s in
-    rw t (shifted i (header_at (drop (i + 1) xs)))
+    rw t (shifted i (index_of_header (drop (i + 1) xs)))
 
-pub header_none : (xs : List ℕ) (i : ℕ) → length xs ≤ i → header_at (drop i xs) ≡ None
-unfolding header_at
+pub header_none : (xs : List ℕ) (i : ℕ) → length xs ≤ i → index_of_header (drop i xs) ≡ None
+unfolding index_of_header
 header_none xs i h = rw (drop_of_length-le xs h) refl
 
 pub from_zero : (r : Option ℕ) → r ≡ option_map (λ (k : ℕ). 0 + k) r

@@ -4,31 +4,31 @@ use Rattle.std.specs.List.{AllByRecursion}
 use Rattle.std.proofs.lemmas.Bool.{and_parts, or_parts, eq-eqb}
 use Rattle.tcp_waiting.specs.Numbers.{rank}
 use Rattle.tcp_waiting.specs.declared.arrival.Arrival as packet
-use Rattle.tcp_waiting.specs.Payload.{Payload, first}
-use Rattle.tcp_flow.specs.Flow.{Flow, Reader, Arrival, Octets, End, Hears, first_of, after}
-use Rattle.tcp_flow.specs.Laws.{IsSettled, AreLater}
+use Rattle.tcp_waiting.specs.Payload.{Payload, oldest_index}
+use Rattle.tcp_flow.specs.Flow.{Flow, Reader, Arrival, Octets, End, Hears, oldest_held, after}
+use Rattle.tcp_flow.specs.Laws.{HoldsOnlyToCome, AreLater}
 use Rattle.tcp_flow.specs.Order.{octets_of, closes_of, Agrees, IsOfContent, StandsIn, IsAt, OrderMakesNoDifference}
-use Rattle.tcp_flow.proofs.Content.{Case, Piece, Covered, So, SomeOf}
-use Rattle.tcp_flow.proofs.ContentRuns.{IsSo, Comes, run, run_has}
+use Rattle.tcp_flow.proofs.Content.{ContentCase, IsPieceOfContent, HasEndCome, HasDeliveredUpTo, HoldsForSome}
+use Rattle.tcp_flow.proofs.ContentRuns.{HasClosedOrSettled, IsPieceArrival, run, run_has}
 use Rattle.tcp_flow.proofs.Places.{same_place, place_later}
 use Rattle.tcp_flow.proofs.Firsts.{first_some}
 
 -- ---- Nothing waits at the start.
 
 none_own : (id next : ℕ) (P : Payload → Type 0) (ps : List Payload) →
-    is_some (first id next ps) ≡ false → AllByRecursion (λ p. p.flow ≡ id → P p) ps
+    is_some (oldest_index id next ps) ≡ false → AllByRecursion (λ p. p.flow ≡ id → P p) ps
 none_own id next P [] h = tt
 none_own id next P (p ∷ ps) h =
-    let e = or_parts (nat_eq p.flow id) (is_some (first id next ps))
+    let e = or_parts (nat_eq p.flow id) (is_some (oldest_index id next ps))
     (sym (first_some id next p ps) ∙ h) in
     ((λ o. absurd (true≢false (sym (eq-eqb p.flow id o) ∙ e.0))), none_own id next P ps e.1)
 
-none_later : (id next least : ℕ) (ps : List Payload) → is_some (first id next ps) ≡ false →
+none_later : (id next least : ℕ) (ps : List Payload) → is_some (oldest_index id next ps) ≡ false →
     AreLater id next least ps
 unfolding AreLater
 none_later id next least [] h = tt
 none_later id next least (p ∷ ps) h =
-    let e = or_parts (nat_eq p.flow id) (is_some (first id next ps))
+    let e = or_parts (nat_eq p.flow id) (is_some (oldest_index id next ps))
     (sym (first_some id next p ps) ∙ h) in
     ((λ o. absurd (true≢false (sym (eq-eqb p.flow id o) ∙ e.0))), none_later id next least ps e.1)
 
@@ -48,20 +48,22 @@ members P [] k = tt
 members P (d ∷ ds) k = (k d (inl refl), members P ds (λ c s. k c (inr s)))
 
 -- one of the payloads has the octets from a place up to another
-record IsSpan (start : ℕ) (content : List ℕ) (ps : List Arrival) (place end : ℕ) : Type 0 where
+record IsSpan (start : ℕ) (content : List ℕ) (arrivals : List Arrival)
+    (place end : ℕ) : Type 0 where
   pub number : ℕ
   pub octets : List ℕ
   pub arrival : packet.Arrival
-  pub among : StandsIn ps (Octets number octets arrival)
+  pub among : StandsIn arrivals (Octets number octets arrival)
   pub agrees : Agrees start content place number octets
   pub long : place + length octets ≡ end
 
 -- no payload spans a place
-unfoldable IsUnspanned : ℕ → List ℕ → List Arrival → ℕ → Type 0
+unfoldable IsUnspanned : (start : ℕ) (content : List ℕ) (arrivals : List Arrival) (place : ℕ) →
+    Type 0
 IsUnspanned start content ps u = (place end : ℕ) → IsSpan start content ps place end → place ≤ u →
     end ≤ u
 
-abbrev case_of : Flow → ℕ → ℕ → List ℕ → ℕ → ℕ → Case
+abbrev case_of : (flow : Flow) (start reached : ℕ) (content : List ℕ) (place end : ℕ) → ContentCase
 case_of f start at content place end = record {
   id = f.id;
   start = start;
@@ -74,8 +76,8 @@ case_of f start at content place end = record {
 }
 
 start_so : (f : Flow) (start at : ℕ) (content : List ℕ) (U : ℕ → Type 0) (place end : ℕ) →
-    IsAt start at content f → IsSo (case_of f start at content place end) U ⊥ f
-unfolding IsSo first_of
+    IsAt start at content f → HasClosedOrSettled (case_of f start at content place end) U ⊥ f
+unfolding HasClosedOrSettled oldest_held
 start_so f start at content U place end h =
     let none : at - at ≡ 0 = omega arith in
     inr (
@@ -90,7 +92,8 @@ start_so f start at content U place end h =
             ∙ append-nil (octets_of f.id f.events));
         count = refl;
         least = λ u l c. l;
-        held = none_own f.id f.next (Piece (case_of f start at content place end) U) f.held h.waits;
+        held = none_own f.id f.next (IsPieceOfContent (case_of f start at content place end) U)
+            f.held h.waits;
         covered = λ k. absurd k;
       },
       record {
@@ -102,8 +105,8 @@ start_so f start at content U place end h =
 
 comes_of : (start at : ℕ) (content : List ℕ) (f : Flow) (ps : List Arrival) (place end : ℕ)
     (c : Arrival) → StandsIn ps c → IsOfContent start content c
-    → Comes (case_of f start at content place end) (IsUnspanned start content ps) c
-unfolding Comes IsOfContent IsUnspanned
+    → IsPieceArrival (case_of f start at content place end) (IsUnspanned start content ps) c
+unfolding IsPieceArrival IsOfContent IsUnspanned
 comes_of start at content f ps place end (Octets n octets arrival) s h = (
   h.0,
   (
@@ -123,17 +126,18 @@ comes_of start at content f ps place end (End n) s h = absurd h
 comes_of start at content f ps place end (Hears packet) s h = absurd h
 
 later_some : (id next least : ℕ) (Q : Payload → Type 0) (ps : List Payload) →
-    AreLater id next least ps → SomeOf Q ps → (p : Payload)
+    AreLater id next least ps → HoldsForSome Q ps → (p : Payload)
     × ((p.flow ≡ id → least < rank next p.number) × Q p)
-unfolding AreLater SomeOf
+unfolding AreLater HoldsForSome
 later_some id next least Q [] h s = absurd s
 later_some id next least Q (p ∷ ps) h (inl s) = (p, (h.0, s))
 later_some id next least Q (p ∷ ps) h (inr s) = later_some id next least Q ps h.1 s
 
 -- what has come and doesn't wait ends at the place that is reached, or before it
-not_beyond : (x : Case) (U : ℕ → Type 0) (L : Type 0) (g : Flow) (so : So x U L g) → IsSettled g →
-    length x.content < 2 ^ 31 → x.place ≤ so.r → Covered x so.r g.held → x.end ≤ so.r
-unfolding Covered
+not_beyond : (x : ContentCase) (U : ℕ → Type 0) (L : Type 0) (g : Flow)
+    (so : HasDeliveredUpTo x U L g) → HoldsOnlyToCome g →
+    length x.content < 2 ^ 31 → x.place ≤ so.r → HasEndCome x so.r g.held → x.end ≤ so.r
+unfolding HasEndCome
 not_beyond x U L g so t small l (inl a) = omega (arith, a, l)
 not_beyond x U L g so t small l (inr (inl a)) = a
 not_beyond x U L g so t small l (inr (inr a)) = search (
@@ -162,12 +166,13 @@ reached : (F : Reader) (f : Flow) (start at : ℕ) (content : List ℕ) (ps cs :
     → closes_of f.id (after F f cs).events ≡ closes_of f.id f.events →
     IsReached start at content (octets_of f.id f.events) ps
     (octets_of f.id (after F f cs).events)
-unfolding IsSo IsUnspanned
+unfolding HasClosedOrSettled IsUnspanned
 reached F f start at content ps cs small h agree into back same =
     let U : ℕ → Type 0 = IsUnspanned start content ps in
-    let comes : (place end : ℕ) → AllByRecursion (Comes (case_of f start at content place end) U)
+    let comes : (place end : ℕ) → AllByRecursion
+    (IsPieceArrival (case_of f start at content place end) U)
     cs =
-    λ place end. members (Comes (case_of f start at content place end) U) cs
+    λ place end. members (IsPieceArrival (case_of f start at content place end) U) cs
     (λ c s. comes_of start at content f ps place end c (back c s)
     (member (IsOfContent start content) ps c agree (back c s))) in
     elim (run F (case_of f start at content 0 0) U ⊥ cs f small (comes 0 0)

@@ -2,12 +2,12 @@
 use Rattle.std.proofs.Common.{◌≡◌, ℕ, zero, suc, ◌+◌, ◌<◌, ◌≤◌, ◌^◌, Bool, true, false, cond, nat_eq, ◌&&◌, ◌||◌, List, [], ◌∷◌, length, get_or, Some, is_some, refl, sym, ◌∙◌, ap, subst, arith}
 use Rattle.std.specs.List.{insert, remove}
 use Rattle.std.proofs.lemmas.Bool.{or_parts, eq-eqb, ne_eqb, eqb-true}
-use Rattle.tcp_waiting.specs.Payload.{Payload, no_payload, first, blocks_of, has_as_much, put, place_of, key_of}
+use Rattle.tcp_waiting.specs.Payload.{Payload, no_payload, oldest_index, blocks_of, holds_as_long, put, place_of, key_of}
 use Rattle.tcp_waiting.specs.Numbers.{age, rank}
-use Rattle.tcp_flow.specs.Flow.{Flow, Reader, Arrival, Octets, End, Hears, held_by_others, first_of, left, gone_on, gap, within_window, holding, payload_came, fin_came, step}
-use Rattle.tcp_flow.specs.Laws.{AreLater, IsSettled}
-use Rattle.tcp_flow.proofs.Preserving.{Keeps, gone_on_keeps, gap_keeps, window_keeps, heard_keeps}
-use Rattle.tcp_flow.proofs.Room.{Holds, held_keeps, left_flow}
+use Rattle.tcp_flow.specs.Flow.{Flow, Reader, Arrival, Octets, End, Hears, held_by_others, oldest_held, without_old_octets, gone_on_with_held, with_gap, within_window, with_held, payload_came, fin_came, step}
+use Rattle.tcp_flow.specs.Laws.{AreLater, HoldsOnlyToCome}
+use Rattle.tcp_flow.proofs.Preserving.{StepsKeep, gone_on_keeps, gap_keeps, window_keeps, heard_keeps}
+use Rattle.tcp_flow.proofs.Room.{HeldSatisfies, held_keeps, left_flow}
 use Rattle.tcp_flow.proofs.Firsts.{first_some}
 
 -- after a payload of the flow was removed
@@ -26,13 +26,14 @@ others_keep id (p ∷ ps) (suc i) h own = search (
 )
 
 -- if the flow holds nothing, all is held by others
-pub others_all : (id next : ℕ) (ps : List Payload) → is_some (first id next ps) ≡ false →
+pub others_all : (id next : ℕ) (ps : List Payload) → is_some (oldest_index id next ps) ≡ false →
     held_by_others id ps ≡ ps
 unfolding held_by_others
 others_all id next [] h = refl
 others_all id next (p ∷ ps) h =
-    let e : (nat_eq p.flow id ≡ false) × (is_some (first id next ps) ≡ false) =
-    or_parts (nat_eq p.flow id) (is_some (first id next ps)) (sym (first_some id next p ps) ∙ h)
+    let e : (nat_eq p.flow id ≡ false) × (is_some (oldest_index id next ps) ≡ false) =
+    or_parts (nat_eq p.flow id) (is_some (oldest_index id next ps))
+    (sym (first_some id next p ps) ∙ h)
     in
     rw e.0 (ap (λ (qs : List Payload). p ∷ qs) (others_all id next ps e.1))
 
@@ -60,7 +61,8 @@ others_put id (p ∷ ps) (suc i) q own = search (arith, cond, nat_eq, others_put
 OthersHold : List Payload → ℕ → List Payload → Type 0
 OthersHold rest id ps = held_by_others id ps ≡ rest
 
-others_keeps : (F : Reader) (rest : List Payload) (id : ℕ) → Keeps F (Holds (OthersHold rest) id)
+others_keeps : (F : Reader) (rest : List Payload) (id : ℕ) →
+    StepsKeep F (HeldSatisfies (OthersHold rest) id)
 unfolding OthersHold
 others_keeps F rest id = search (arith, held_keeps, others_keep)
 
@@ -68,17 +70,17 @@ either : (P : Flow → Type 0) (b : Bool) (f g : Flow) → P f → P g → P (co
 either P true f g p q = p
 either P false f g p q = q
 
-same_others : (f : Flow) → Holds (OthersHold (held_by_others f.id f.held)) f.id f
+same_others : (f : Flow) → HeldSatisfies (OthersHold (held_by_others f.id f.held)) f.id f
 unfolding OthersHold
 same_others f = search (arith)
 
 came_others : (F : Reader) (f : Flow) (p : Payload) → p.flow ≡ f.id →
-    Holds (OthersHold (held_by_others f.id f.held)) f.id (payload_came F f p)
-unfolding payload_came holding OthersHold
+    HeldSatisfies (OthersHold (held_by_others f.id f.held)) f.id (payload_came F f p)
+unfolding payload_came with_held OthersHold
 came_others F f p own =
-    let P = Holds (OthersHold (held_by_others f.id f.held)) f.id in
+    let P = HeldSatisfies (OthersHold (held_by_others f.id f.held)) f.id in
     let k = others_keeps F (held_by_others f.id f.held) f.id in
-    let q : Payload = left f.next (is_some f.live) p in
+    let q : Payload = without_old_octets f.next (is_some f.live) p in
     let h : Flow = record f { held = put q f.held } in
     let start : P h = record {
       own = refl;
@@ -86,23 +88,23 @@ came_others F f p own =
           others_put f.id f.held (place_of (key_of q) f.held) q
           (left_flow f.next (is_some f.live) p ∙ own);
     } in
-    either P (nat_eq (length q.octets) 0 || has_as_much f.id q.number (length q.octets) f.held) f
-    (within_window F (length f.held + 1) (gone_on F h)) (same_others f)
-    (window_keeps F P k (length f.held + 1) (gone_on F h)
+    either P (nat_eq (length q.octets) 0 || holds_as_long f.id q.number (length q.octets) f.held) f
+    (within_window F (length f.held + 1) (gone_on_with_held F h)) (same_others f)
+    (window_keeps F P k (length f.held + 1) (gone_on_with_held F h)
     (gone_on_keeps F P k h start))
 
 step_holds : (F : Reader) (f : Flow) (a : Arrival) →
-    Holds (OthersHold (held_by_others f.id f.held)) f.id (step F f a)
+    HeldSatisfies (OthersHold (held_by_others f.id f.held)) f.id (step F f a)
 unfolding step fin_came OthersHold
 step_holds F f (Octets n octets arrival) = search (arith, came_others)
 step_holds F f (End n) =
-    let P = Holds (OthersHold (held_by_others f.id f.held)) f.id in
+    let P = HeldSatisfies (OthersHold (held_by_others f.id f.held)) f.id in
     either P (is_some f.live && nat_eq (age f.next n) 0)
-    (gone_on F (record f { fin = Some n })) f
+    (gone_on_with_held F (record f { fin = Some n })) f
     (gone_on_keeps F P (others_keeps F (held_by_others f.id f.held) f.id)
     (record f { fin = Some n }) (record { own = refl; held = refl })) (same_others f)
 step_holds F f (Hears h) =
-    heard_keeps F (Holds (OthersHold (held_by_others f.id f.held)) f.id)
+    heard_keeps F (HeldSatisfies (OthersHold (held_by_others f.id f.held)) f.id)
     (others_keeps F (held_by_others f.id f.held) f.id) (length f.held) h f
     (same_others f)
 
@@ -113,9 +115,9 @@ unfolding OthersHold
 step_others F f a = (step_holds F f a).held
 
 pub gap_others : (F : Reader) (f : Flow) →
-    held_by_others f.id (gap F f).held ≡ held_by_others f.id f.held
+    held_by_others f.id (with_gap F f).held ≡ held_by_others f.id f.held
 unfolding OthersHold
-gap_others F f = (gap_keeps F (Holds (OthersHold (held_by_others f.id f.held)) f.id)
+gap_others F f = (gap_keeps F (HeldSatisfies (OthersHold (held_by_others f.id f.held)) f.id)
     (others_keeps F (held_by_others f.id f.held) f.id) f (same_others f)).held
 
 others_twice_by : (id : ℕ) (p : Payload) (qs : List Payload) (b : Bool) → nat_eq p.flow id ≡ b →
@@ -134,14 +136,14 @@ others_twice id (p ∷ ps) = search (arith, others_twice_by, nat_eq, others_twic
 -- the first payload of another flow is among those that others hold
 first_beside_by : (a b next : ℕ) (p : Payload) (ps : List Payload) (here : Bool) → (a ≡ b → ⊥) →
     nat_eq p.flow a ≡ here
-    → is_some (first b next (held_by_others a ps)) ≡ is_some (first b next ps) →
-    is_some (first b next (cond here (held_by_others a ps) (p ∷ held_by_others a ps)))
-    ≡ is_some (first b next (p ∷ ps))
+    → is_some (oldest_index b next (held_by_others a ps)) ≡ is_some (oldest_index b next ps) →
+    is_some (oldest_index b next (cond here (held_by_others a ps) (p ∷ held_by_others a ps)))
+    ≡ is_some (oldest_index b next (p ∷ ps))
 first_beside_by a b next p ps true apart e h = search (arith, nat_eq, ne_eqb, eqb-true, first_some)
 first_beside_by a b next p ps false apart e h = search (arith, first_some)
 
 first_beside : (a b next : ℕ) (ps : List Payload) → (a ≡ b → ⊥) →
-    is_some (first b next (held_by_others a ps)) ≡ is_some (first b next ps)
+    is_some (oldest_index b next (held_by_others a ps)) ≡ is_some (oldest_index b next ps)
 unfolding held_by_others
 first_beside a b next [] apart = refl
 first_beside a b next (p ∷ ps) apart = search (
@@ -190,15 +192,15 @@ all_later a b next least (p ∷ ps) apart t =
 
 -- a flow stays settled, whatever another flow does
 pub settled_beside : (a : ℕ) (f : Flow) (held : List Payload) → (a ≡ f.id → ⊥) →
-    held_by_others a held ≡ held_by_others a f.held → IsSettled f →
-    IsSettled (record f { held = held })
-unfolding first_of
+    held_by_others a held ≡ held_by_others a f.held → HoldsOnlyToCome f →
+    HoldsOnlyToCome (record f { held = held })
+unfolding oldest_held
 settled_beside a f held apart e t =
     record {
       live = λ l. all_later a f.id f.next (2 ^ 31) held apart
           (subst (AreLater f.id f.next (2 ^ 31)) (sym e)
           (fewer_later a f.id f.next (2 ^ 31) f.held (t.live l)));
       dead = λ d. sym (first_beside a f.id f.next held apart)
-          ∙ ap (λ (ps : List Payload). is_some (first f.id f.next ps)) e
+          ∙ ap (λ (ps : List Payload). is_some (oldest_index f.id f.next ps)) e
           ∙ first_beside a f.id f.next f.held apart ∙ t.dead d;
     }

@@ -43,11 +43,11 @@ drop_content place k octets content l e =
     ∙ ap (take (length octets - k)) (drop-drop k place content)
 
 -- what was delivered, and then the octets that follow it
-pub goes_on : (at r place : ℕ) (octets content : List ℕ) → at ≤ r → place ≤ r →
+pub is_continued_by : (at r place : ℕ) (octets content : List ℕ) → at ≤ r → place ≤ r →
     r ≤ place + length octets → octets ≡ take (length octets) (drop place content)
     → take (r - at) (drop at content) ++ drop (r - place) octets
     ≡ take (place + length octets - at) (drop at content)
-goes_on at r place octets content l m n e =
+is_continued_by at r place octets content l m n e =
     let rest : drop (r - place) octets ≡ take (length octets - (r - place))
     (drop (place + (r - place)) content) =
     drop_content place (r - place) octets content (omega (arith, n, m)) e in

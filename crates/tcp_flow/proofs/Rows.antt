@@ -2,21 +2,21 @@
 use Rattle.std.proofs.Common.{◌≡◌, ℕ, Bool, false, cond, nat_eq, List, [], ◌∷◌, ◌++◌, Option, Some, None, true, refl}
 use Rattle.tcp_flow.specs.declared.flow.CloseCause.TheVariants.{Fin, Gap, Fault}
 use Rattle.tcp_waiting.specs.declared.arrival.Arrival as origin
-use Rattle.tcp_waiting.specs.Payload.{earlier, first, is_far, has_as_much, place_of}
-use Rattle.tcp_flow.specs.Flow.{Event, Reader, Begins, Delivers, Closes, OfCapture, ComesFrom, Passes, Arrival, Octets, End, Hears, header_at, chain_from, stream_at, left, with_event, checked, delivered, cut_up, tail_before, begun, all_delivered, rejoined, looked_through, told_from, taken, first_of, at, is_due, drained_at_most, drained, fin_is_reached, closed, without_stale_fin, ended, gone_on, passing, passed_over, parted, gap, within_window, holding, payload_came, fin_came, is_lost, heard, step, after, first_payload}
+use Rattle.tcp_waiting.specs.Payload.{oldest_with, oldest_index, holds_beyond_window, holds_as_long, place_of}
+use Rattle.tcp_flow.specs.Flow.{Event, Reader, Begins, Delivers, Closes, OfCapture, ComesFrom, Passes, Arrival, Octets, End, Hears, index_of_header, chain_from, stream_begin_in, without_old_octets, with_event, closed_at_fault, delivered, cut_up, tail_continued_by, begun_in_payload, all_delivered, joined_to_tail, looked_through, with_arrival_told, taken, oldest_held, at, is_due, drained_at_most, drained_due, fin_is_reached, closed, without_stale_fin, closed_at_fin, gone_on_with_held, passable_octets, octets_passed_over, closed_for_gap, with_gap, within_window, with_held, payload_came, fin_came, is_lost, heard, step, after, first_payload}
 
 -- the reader is at a fault at its 7th octet, if the last octets that it was given begin with 255
-unfoldable is_bad : Event → Option ℕ
-is_bad (Delivers id (x ∷ xs)) = cond (nat_eq x 255) (Some 7) None
-is_bad h = None
+unfoldable fault_of_event : (event : Event) → Option ℕ
+fault_of_event (Delivers id (x ∷ xs)) = cond (nat_eq x 255) (Some 7) None
+fault_of_event h = None
 
-unfoldable any_bad : List Event → Option ℕ
-any_bad [] = None
-any_bad (h ∷ []) = is_bad h
-any_bad (h ∷ k ∷ hs) = any_bad (k ∷ hs)
+unfoldable fault_of_last : (events : List Event) → Option ℕ
+fault_of_last [] = None
+fault_of_last (h ∷ []) = fault_of_event h
+fault_of_last (h ∷ k ∷ hs) = fault_of_last (k ∷ hs)
 
 unfoldable reader : Reader
-reader = record { faulted = any_bad; lacking = λ hs id. None }
+reader = record { faulted = fault_of_last; lacking = λ hs id. None }
 
 unfoldable header : List ℕ
 header = 71 ∷ 73 ∷ 79 ∷ 80 ∷ 1 ∷ 0 ∷ []
@@ -26,51 +26,52 @@ unfoldable message : List ℕ
 message = 71 ∷ 73 ∷ 79 ∷ 80 ∷ 1 ∷ 0 ∷ 0 ∷ 5 ∷ 0 ∷ 0 ∷ 0 ∷ 0 ∷ []
 
 -- a packet with a number, and a payload in the packet of its own number
-unfoldable packet : ℕ → origin.Arrival
+unfoldable packet : (n : ℕ) → origin.Arrival
 packet n = record { time = None; packet = n }
 
-unfoldable octets : ℕ → List ℕ → Arrival
+unfoldable octets : (n : ℕ) (xs : List ℕ) → Arrival
 octets n xs = Octets n xs (packet n)
 
 -- a packet without a time acknowledges octets
-unfoldable acknowledged : ℕ → Arrival
+unfoldable acknowledged : (n : ℕ) → Arrival
 acknowledged n = Hears (record { acknowledged = Some n; answers = false; arrival = packet n })
 
 -- at a time in nanoseconds, a payload comes before which octets are missing, and then a packet that
 -- acknowledges a number or none, with octets or without
-unfoldable held_at : ℕ → Arrival
+unfoldable held_at : (time : ℕ) → Arrival
 held_at time = Octets 1010 header (record { time = Some time; packet = 1 })
 
-unfoldable heard_at : Option ℕ → Bool → ℕ → Arrival
+unfoldable heard_at : (number : Option ℕ) (answers : Bool) (time : ℕ) → Arrival
 heard_at number answers time = Hears (record {
   acknowledged = number;
   answers = answers;
   arrival = record { time = Some time; packet = 2 };
 })
 
-unfoldable events : List Arrival → ℕ → List Event
+unfoldable events : (cs : List Arrival) (n : ℕ) → List Event
 events cs n = (after reader (first_payload reader 7 n header (packet n) [] []) cs).events
 
 -- the message that a stream is in lacks four octets
-unfoldable knowing : Reader
-knowing = record { faulted = any_bad; lacking = λ hs id. Some 4 }
+unfoldable reader_lacking_four : Reader
+reader_lacking_four = record { faulted = fault_of_last; lacking = λ hs id. Some 4 }
 
-unfoldable events_known : List Arrival → List Event
-events_known cs = (after knowing (first_payload knowing 7 1000 header (packet 1) [] []) cs).events
+unfoldable events_known : (cs : List Arrival) → List Event
+events_known cs = (after reader_lacking_four
+    (first_payload reader_lacking_four 7 1000 header (packet 1) [] []) cs).events
 
 -- what happens if the first payload has these octets, at 1000, and then this comes
-unfoldable events_from : List ℕ → List Arrival → List Event
+unfoldable events_from : (xs : List ℕ) (cs : List Arrival) → List Event
 events_from xs cs = (after reader (first_payload reader 7 1000 xs (packet 1000) [] []) cs).events
 
 -- a stream begins at a number, and `passed` octets before it are in no stream
-unfoldable begins_at : ℕ → ℕ → Bool → Event
+unfoldable begins_at : (n passed : ℕ) (found : Bool) → Event
 begins_at n passed found = Begins 7 (record { number = n; passed = passed; is_found = found })
 
 unfoldable first_begins : Event
 first_begins = begins_at 1000 0 false
 
 -- without what is told of packets and of octets that were looked through in vain
-unfoldable in_flows : List Event → List Event
+unfoldable in_flows : (events : List Event) → List Event
 in_flows [] = []
 in_flows (OfCapture e ∷ es) = in_flows es
 in_flows (e ∷ es) = e ∷ in_flows es
@@ -184,13 +185,18 @@ record Rows : Type 0 where
       ∷ Delivers 7 header ∷ []
 
 rows : Rows
-unfolding header_at chain_from stream_at left with_event checked delivered begun cut_up
-    tail_before all_delivered rejoined looked_through told_from taken earlier first first_of at
-    is_due drained_at_most drained fin_is_reached closed without_stale_fin ended gone_on passing
-    passed_over parted gap is_far within_window has_as_much holding
+unfolding index_of_header chain_from stream_begin_in without_old_octets with_event closed_at_fault
+    delivered begun_in_payload cut_up
+    tail_continued_by all_delivered joined_to_tail looked_through with_arrival_told taken
+    oldest_with oldest_index oldest_held at
+    is_due drained_at_most drained_due fin_is_reached closed without_stale_fin closed_at_fin
+    gone_on_with_held passable_octets
+    octets_passed_over closed_for_gap with_gap holds_beyond_window within_window holds_as_long
+    with_held
     place_of payload_came fin_came is_lost heard step after first_payload events events_from
-    in_flows reader packet knowing events_known octets acknowledged held_at heard_at header
-    message begins_at first_begins any_bad is_bad
+    in_flows reader packet reader_lacking_four events_known octets acknowledged held_at heard_at
+    header
+    message begins_at first_begins fault_of_last fault_of_event
 rows = record {
   begins = refl;
   retransmission-falls-away = refl;

@@ -5,8 +5,8 @@ use Rattle.std.proofs.lemmas.Result.{on_ok_weaker}
 use Rattle.tcp_waiting.specs.Payload.{Payload}
 use Rattle.tcp_flow.specs.declared.flow.CloseCause.TheVariants.{Fault}
 use Rattle.tcp_flow.specs.declared.flow.FlowState.{FlowState}
-use Rattle.tcp_flow.specs.Flow.{Flow, Event, Reader, stopped, checked, number_after, handed, delivered, without_stale_fin, parted, first_of, held_by_others}
-use Rattle.tcp_flow.specs.Laws.{IsSettled}
+use Rattle.tcp_flow.specs.Flow.{Flow, Event, Reader, stream_closed, closed_at_fault, number_after_octet, delivered_unchecked, delivered, without_stale_fin, closed_for_gap, oldest_held, held_by_others}
+use Rattle.tcp_flow.specs.Laws.{HoldsOnlyToCome}
 use Rattle.tcp_flow.specs.State.{state, IsState}
 
 -- a claim about a flow follows from the claim about the code's state of it
@@ -21,15 +21,17 @@ pub on_ok_equal : {T E : Type 0} (r : Result T E) (O : List Event → Type 0) (s
     OnOk r (IsState O s held g)
 on_ok_equal r O s held f g e t = search (arith, on_ok_weaker)
 
-pub delivered_on : (F : Reader) (f : Flow) (p : Payload) → F.faulted (handed f p).events ≡ None →
-    delivered F f p ≡ handed f p
-unfolding delivered checked
+pub delivered_on : (F : Reader) (f : Flow) (p : Payload) →
+    F.faulted (delivered_unchecked f p).events ≡ None →
+    delivered F f p ≡ delivered_unchecked f p
+unfolding delivered closed_at_fault
 delivered_on F f p e = rw e refl
 
 pub delivered_fault : (F : Reader) (f : Flow) (p : Payload) (at : ℕ) →
-    F.faulted (handed f p).events ≡ Some at
-    → delivered F f p ≡ stopped (handed f p) (number_after (handed f p) at) Fault
-unfolding delivered checked
+    F.faulted (delivered_unchecked f p).events ≡ Some at
+    → delivered F f p ≡ stream_closed (delivered_unchecked f p)
+    (number_after_octet (delivered_unchecked f p) at) Fault
+unfolding delivered closed_at_fault
 delivered_fault F f p at e = rw e refl
 
 -- a FIN is kept or dropped
@@ -55,17 +57,17 @@ stale_state O s s' held f h k = search (arith, by_state, stale_events)
 
 -- whether a flow is settled doesn't depend on what has happened
 pub settled_whatever : (s : FlowState) (held : List Payload) (before behind : List Event) →
-    IsSettled (state s held before) → IsSettled (state s held behind)
-unfolding first_of
+    HoldsOnlyToCome (state s held before) → HoldsOnlyToCome (state s held behind)
+unfolding oldest_held
 settled_whatever s held before behind t = search (arith)
 
 -- if the flow is settled, so is the code's state
 pub settled_state : (O : List Event → Type 0) (s : FlowState) (held : List Payload) (f : Flow) →
-    IsState O s held f → IsSettled f → IsSettled (state s held [])
+    IsState O s held f → HoldsOnlyToCome f → HoldsOnlyToCome (state s held [])
 settled_state O s held f h t = search (arith, settled_whatever)
 
 pub settled_flow : (O : List Event → Type 0) (s : FlowState) (held : List Payload) (f : Flow) →
-    IsState O s held f → IsSettled (state s held []) → IsSettled f
+    IsState O s held f → HoldsOnlyToCome (state s held []) → HoldsOnlyToCome f
 settled_flow O s held f h t = search (arith, settled_whatever)
 
 pub held_of : (O : List Event → Type 0) (s : FlowState) (held : List Payload) (f : Flow) →
@@ -85,6 +87,6 @@ others_of O O' s s' held held' f g h n e = search (arith, held_of)
 
 -- the same if the numbers of octets that are passed over are equal
 pub parted_on : (O : List Event → Type 0) (s : FlowState) (held : List Payload) (f : Flow)
-    (passed over : Option ℕ) → passed ≡ over → IsState O s held (parted f passed) →
-    IsState O s held (parted f over)
+    (passed over : Option ℕ) → passed ≡ over → IsState O s held (closed_for_gap f passed) →
+    IsState O s held (closed_for_gap f over)
 parted_on O s held f passed over e h = search (arith)

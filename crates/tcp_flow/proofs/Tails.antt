@@ -7,7 +7,7 @@ use Rattle.tcp_waiting.specs.declared.arrival.Arrival as origin
 use Rattle.tcp_waiting.specs.Numbers.{onward}
 use Rattle.tcp_waiting.specs.Payload.{Payload, payload, without_first}
 use Rattle.tcp_flow.specs.declared.tail.Tail.{Tail}
-use Rattle.tcp_flow.specs.Flow.{Flow, Reader, Passes, OfCapture, lives, with_event, checked, delivered, started, begun, all_delivered, rejoined, looked_through, stream_at, is_front, is_beginning, first_five, cut_up, octets_of, parts_of, tail_of, lengthened, goes_on, tail_before}
+use Rattle.tcp_flow.specs.Flow.{Flow, Reader, Passes, OfCapture, lives, with_event, closed_at_fault, delivered, started, begun_in_payload, all_delivered, joined_to_tail, looked_through, stream_begin_in, may_be_header, is_header_beginning, first_five, cut_up, octets_of, parts_of, tail_of, lengthened, is_continued_by, tail_continued_by}
 use Rattle.tcp_flow.specs.Laws.{StandFrom, total, IsTailOf}
 
 -- ---- What single steps keep.
@@ -25,30 +25,30 @@ all_delivered_by F I k f a (xs ∷ xss) i =
     ]
 
 -- a flow after octets were looked through in vain, with the tail that it then has
-abbrev pub in_vain : Flow → Option Tail → List ℕ → Flow
-in_vain f t xs = with_event (record f { tail = t }) (OfCapture (Passes xs))
+abbrev pub looked_in_vain : (flow : Flow) (tail : Option Tail) (octets : List ℕ) → Flow
+looked_in_vain f t xs = with_event (record f { tail = t }) (OfCapture (Passes xs))
 
 begun_by : (F : Reader) (I : Flow → Type 0) → ((g : Flow) (p : Payload) → I g →
     I (delivered F g p))
     → ((g : Flow) (n : ℕ) → I g → I (started g n))
-    → ((g : Flow) (t : Option Tail) (xs : List ℕ) → I g → I (in_vain g t xs))
-    → (f : Flow) (p : Payload) (r : Option ℕ) → I f → I (begun F f p r)
-unfolding begun
+    → ((g : Flow) (t : Option Tail) (xs : List ℕ) → I g → I (looked_in_vain g t xs))
+    → (f : Flow) (p : Payload) (r : Option ℕ) → I f → I (begun_in_payload F f p r)
+unfolding begun_in_payload
 begun_by F I k s v f p None i = search (arith, cond)
 begun_by F I k s v f p (Some n) i = search (arith)
 
 pub looked_by : (F : Reader) (I : Flow → Type 0) → ((g : Flow) (p : Payload) → I g →
     I (delivered F g p))
     → ((g : Flow) (n : ℕ) → I g → I (started g n))
-    → ((g : Flow) (t : Option Tail) (xs : List ℕ) → I g → I (in_vain g t xs))
+    → ((g : Flow) (t : Option Tail) (xs : List ℕ) → I g → I (looked_in_vain g t xs))
     → (f : Flow) (p : Payload) (o : Option Tail) → I f → I (looked_through F f p o)
-unfolding looked_through rejoined
-looked_by F I k s v f p None i = begun_by F I k s v f p (stream_at p.octets) i
+unfolding looked_through joined_to_tail
+looked_by F I k s v f p None i = begun_by F I k s v f p (stream_begin_in p.octets) i
 looked_by F I k s v f p (Some t) i =
     let all : Flow =
     all_delivered F (started f t.number) p.arrival (parts_of t ++ p.octets ∷ []) in
     let more : Flow =
-    in_vain f (Some (lengthened t (length p.octets))) (octets_of t ++ p.octets) in
+    looked_in_vain f (Some (lengthened t (length p.octets))) (octets_of t ++ p.octets) in
     elim (nat_lt (t.octets + length p.octets) 6) as (λ (b : Bool). I (cond b more all)) [
       | true ↦ v f (Some (lengthened t (length p.octets))) (octets_of t ++ p.octets) i
       | false ↦ all_delivered_by F I k (started f t.number) p.arrival
@@ -68,7 +68,7 @@ front_by (u ∷ v ∷ w ∷ x ∷ y ∷ []) a b c d e l = rw (a, b, c, d, e) ref
 front_by (u ∷ v ∷ w ∷ x ∷ y ∷ z ∷ zs) a b c d e l = absurd (omega (arith, l))
 
 -- octets that begin as the six octets do, and are at most five, are the first of them
-pub front_is : (ys : List ℕ) → is_front ys ≡ true → length ys ≤ 5 →
+pub front_is : (ys : List ℕ) → may_be_header ys ≡ true → length ys ≤ 5 →
     ys ≡ take (length ys) first_five
 front_is ys h l = search (arith, get_or, front_by)
 
@@ -148,17 +148,18 @@ taken_up a m xs e = search (arith, cases_lt, take, take-length, take_all)
 
 -- the tail that octets go on from
 pub before_some : (o : Option Tail) (t : Tail) (n : ℕ) (xs : List ℕ) → o ≡ Some t →
-    goes_on t n xs ≡ true → tail_before o n xs ≡ Some t
-unfolding tail_before
+    is_continued_by t n xs ≡ true → tail_continued_by o n xs ≡ Some t
+unfolding tail_continued_by
 before_some o t n xs e g = search (arith, cond-true)
 
 pub before_other : (o : Option Tail) (t : Tail) (n : ℕ) (xs : List ℕ) → o ≡ Some t →
-    goes_on t n xs ≡ false → tail_before o n xs ≡ None
-unfolding tail_before
+    is_continued_by t n xs ≡ false → tail_continued_by o n xs ≡ None
+unfolding tail_continued_by
 before_other o t n xs e g = search (arith, cond-false)
 
-pub before_none : (o : Option Tail) (n : ℕ) (xs : List ℕ) → o ≡ None → tail_before o n xs ≡ None
-unfolding tail_before
+pub before_none : (o : Option Tail) (n : ℕ) (xs : List ℕ) → o ≡ None →
+    tail_continued_by o n xs ≡ None
+unfolding tail_continued_by
 before_none o n xs e = search (arith)
 
 none_some : {X : Type 0} (t : X) → ◌≡◌ {A = Option X} None (Some t) → ⊥
@@ -168,8 +169,8 @@ some_same : {X : Type 0} (x y : X) → Some x ≡ Some y → x ≡ y
 some_same {X = X} x y e = ap (λ (o : Option X). unwrap_or o x) e
 
 pub before_is : (o : Option Tail) (t : Tail) (n : ℕ) (xs : List ℕ) →
-    tail_before o n xs ≡ Some t → (o ≡ Some t) × (goes_on t n xs ≡ true)
-unfolding tail_before
+    tail_continued_by o n xs ≡ Some t → (o ≡ Some t) × (is_continued_by t n xs ≡ true)
+unfolding tail_continued_by
 before_is None t n xs e = absurd (none_some t e)
 before_is (Some u) t n xs e = search (
   arith,
@@ -182,11 +183,11 @@ before_is (Some u) t n xs e = search (
 
 -- a tail and the octets that go on from it are the first of the six octets, if there are at most
 -- five
-pub together : (t : Tail) (n : ℕ) (xs : List ℕ) → goes_on t n xs ≡ true →
+pub together : (t : Tail) (n : ℕ) (xs : List ℕ) → is_continued_by t n xs ≡ true →
     t.octets + length xs ≤ 5 → octets_of t ++ xs ≡ take (t.octets + length xs) first_five
 together t n xs g l =
-    let front : is_front (octets_of t ++ xs) ≡ true =
-    (and_parts (nat_eq (onward t.number t.octets) n) (is_front (octets_of t ++ xs)) g).1 in
+    let front : may_be_header (octets_of t ++ xs) ≡ true =
+    (and_parts (nat_eq (onward t.number t.octets) n) (may_be_header (octets_of t ++ xs)) g).1 in
     let long : length (octets_of t ++ xs) ≡ t.octets + length xs =
     omega (arith, length-append (octets_of t) xs, length-take t.octets first_five, l) in
     front_is (octets_of t ++ xs) front (omega (arith, long, l))
@@ -194,34 +195,34 @@ together t n xs g l =
 
 -- ---- Octets that are looked through alone.
 
-abbrev vain_tail : Flow → Payload → Bool → Option Tail
-vain_tail f p b = cond b (Some (tail_of p.number (length p.octets))) f.tail
+abbrev tail_after_vain : (flow : Flow) (payload : Payload) (is_beginning : Bool) → Option Tail
+tail_after_vain f p b = cond b (Some (tail_of p.number (length p.octets))) f.tail
 
 pub looked_vain : (F : Reader) (f : Flow) (p : Payload) (o : Option Tail) (b : Bool) → o ≡ None →
-    stream_at p.octets ≡ None → is_beginning p.octets ≡ b →
-    looked_through F f p o ≡ in_vain f (vain_tail f p b) p.octets
-unfolding looked_through begun
+    stream_begin_in p.octets ≡ None → is_header_beginning p.octets ≡ b →
+    looked_through F f p o ≡ looked_in_vain f (tail_after_vain f p b) p.octets
+unfolding looked_through begun_in_payload
 looked_vain F f p o b e n is = search (arith)
 
 pub looked_begun : (F : Reader) (f : Flow) (p : Payload) (o : Option Tail) (i : ℕ) → o ≡ None →
-    stream_at p.octets ≡ Some i → looked_through F f p o
+    stream_begin_in p.octets ≡ Some i → looked_through F f p o
     ≡ delivered F (started f (onward p.number i)) (without_first i p)
-unfolding looked_through begun
+unfolding looked_through begun_in_payload
 looked_begun F f p o i e n = search (arith)
 
 -- ---- Octets that go on from a tail.
 
 pub rejoined_begun : (F : Reader) (f : Flow) (p : Payload) (t : Tail) →
-    nat_lt (t.octets + length p.octets) 6 ≡ false → rejoined F f p t
+    nat_lt (t.octets + length p.octets) 6 ≡ false → joined_to_tail F f p t
     ≡ all_delivered F (all_delivered F (started f t.number) p.arrival (parts_of t)) p.arrival
     (p.octets ∷ [])
-unfolding rejoined
+unfolding joined_to_tail
 rejoined_begun F f p t e = search (arith, cond-false, nat_lt, all_more)
 
 pub rejoined_vain : (F : Reader) (f : Flow) (p : Payload) (t : Tail) →
-    nat_lt (t.octets + length p.octets) 6 ≡ true → rejoined F f p t
-    ≡ in_vain f (Some (lengthened t (length p.octets))) (octets_of t ++ p.octets)
-unfolding rejoined
+    nat_lt (t.octets + length p.octets) 6 ≡ true → joined_to_tail F f p t
+    ≡ looked_in_vain f (Some (lengthened t (length p.octets))) (octets_of t ++ p.octets)
+unfolding joined_to_tail
 rejoined_vain F f p t e = search (arith, cond-true, nat_lt)
 
 pub last_live : (F : Reader) (f : Flow) (a : origin.Arrival) (xs : List ℕ) →
@@ -232,17 +233,17 @@ last_live F f a xs e = all_live F f a xs [] e
 
 -- ---- What is true of each payload of a flow's tail.
 
-parts_new : (xs : List ℕ) → is_beginning xs ≡ true →
+parts_new : (xs : List ℕ) → is_header_beginning xs ≡ true →
     (length xs ≤ 5) × (xs ≡ take (length xs) first_five)
 parts_new xs h = search (arith, front_is)
 
 pub tail_new : (P : ℕ → List ℕ → Type 0) (n : ℕ) (xs : List ℕ) → n < 2 ^ 32 →
-    is_beginning xs ≡ true → P n xs → IsTailOf P (tail_of n (length xs))
+    is_header_beginning xs ≡ true → P n xs → IsTailOf P (tail_of n (length xs))
 unfolding total cut_up StandFrom
 tail_new P n xs small h p = search (arith, parts_new)
 
 longer : (P : ℕ → List ℕ → Type 0) (t : Tail) (n : ℕ) (xs : List ℕ) → IsTailOf P t →
-    goes_on t n xs ≡ true → t.octets + length xs ≤ 5 → t.count < 5 → P n xs →
+    is_continued_by t n xs ≡ true → t.octets + length xs ≤ 5 → t.count < 5 → P n xs →
     IsTailOf P (record t {
       octets = t.octets + length xs;
       count = t.count + 1;
@@ -255,7 +256,7 @@ longer P t n xs h g l few p =
     take_more_set t.parts t.count k (omega (arith, h.room, few)) in
     let ends : onward t.number t.octets ≡ n =
     eqb-true (onward t.number t.octets) n
-    (and_parts (nat_eq (onward t.number t.octets) n) (is_front (octets_of t ++ xs)) g).0 in
+    (and_parts (nat_eq (onward t.number t.octets) n) (may_be_header (octets_of t ++ xs)) g).0 in
     let part : xs ≡ take k (drop (total ks) first_five) =
     sym (drop-append_seam (octets_of t) xs)
     ∙ ap (λ (ys : List ℕ). drop (length (octets_of t)) ys) (together t n xs g l)
@@ -276,7 +277,7 @@ longer P t n xs h g l few p =
     }
 
 pub tail_longer : (P : ℕ → List ℕ → Type 0) (t : Tail) (n : ℕ) (xs : List ℕ) → IsTailOf P t →
-    goes_on t n xs ≡ true → t.octets + length xs ≤ 5 → P n xs →
+    is_continued_by t n xs ≡ true → t.octets + length xs ≤ 5 → P n xs →
     IsTailOf P (lengthened t (length xs))
 tail_longer P t n xs h g l p =
     let more : Tail = record t {
@@ -294,7 +295,7 @@ tail_longer P t n xs h g l p =
 
 -- P is true of the payloads of a tail and of the one that goes on from it
 together_stand : (P : ℕ → List ℕ → Type 0) (t : Tail) (n : ℕ) (xs : List ℕ) → IsTailOf P t →
-    goes_on t n xs ≡ true → P n xs → StandFrom P t.number (parts_of t ++ xs ∷ [])
+    is_continued_by t n xs ≡ true → P n xs → StandFrom P t.number (parts_of t ++ xs ∷ [])
 together_stand P t n xs h g p = search (arith, eqb-true, and_parts, nat_eq, stand_more, take)
 
 -- another relation that follows
@@ -308,8 +309,8 @@ pub tail_map : (P Q : ℕ → List ℕ → Type 0) (t : Tail) →
     ((m : ℕ) (xs : List ℕ) → P m xs → Q m xs) → IsTailOf P t → IsTailOf Q t
 tail_map P Q t k h = search (arith, stand_map)
 
-checked_next : (f : Flow) (r : Option ℕ) → (checked f r).next ≡ f.next
-unfolding checked with_event
+checked_next : (f : Flow) (r : Option ℕ) → (closed_at_fault f r).next ≡ f.next
+unfolding closed_at_fault with_event
 checked_next f None = refl
 checked_next f (Some at) = refl
 
@@ -318,8 +319,8 @@ delivered_next : (F : Reader) (f : Flow) (p : Payload) →
 unfolding delivered with_event
 delivered_next F f p = search (arith, checked_next)
 
-checked_id : (f : Flow) (r : Option ℕ) → (checked f r).id ≡ f.id
-unfolding checked with_event
+checked_id : (f : Flow) (r : Option ℕ) → (closed_at_fault f r).id ≡ f.id
+unfolding closed_at_fault with_event
 checked_id f None = refl
 checked_id f (Some at) = refl
 
@@ -327,18 +328,19 @@ pub delivered_id : (F : Reader) (f : Flow) (p : Payload) → (delivered F f p).i
 unfolding delivered with_event
 delivered_id F f p = search (arith, checked_id)
 
--- what a flow keeps, if P is true of each payload of its tail and of those that it takes
-pub record Looks (F : Reader) (P : ℕ → List ℕ → Type 0) (I : Flow → Type 0) : Type 0 where
+-- what looking for a stream keeps of a flow (I), if P is true of each payload of its tail and of
+-- those that it takes
+pub record LookingKeeps (F : Reader) (P : ℕ → List ℕ → Type 0) (I : Flow → Type 0) : Type 0 where
   pub delivers : (g : Flow) (p : Payload) → I g → lives g.live g.waits ≡ true → p.number ≡ g.next →
       P p.number p.octets → I (delivered F g p)
   pub starts : (g : Flow) (n : ℕ) → n < 2 ^ 32 → is_some g.live ≡ false → I g → I (started g n)
   pub passes : (g : Flow) (t : Option Tail) (xs : List ℕ) →
-      ((u : Tail) → t ≡ Some u → IsTailOf P u) → I g → I (in_vain g t xs)
+      ((u : Tail) → t ≡ Some u → IsTailOf P u) → I g → I (looked_in_vain g t xs)
   pub tail : (g : Flow) (t : Tail) → I g → g.tail ≡ Some t → IsTailOf P t
   pub skips : (n i : ℕ) (xs : List ℕ) → P n xs → P (onward n i) (drop i xs)
   pub small : (n : ℕ) (xs : List ℕ) → P n xs → n < 2 ^ 32
 
-module _ (F : Reader) (P : ℕ → List ℕ → Type 0) (I : Flow → Type 0) (k : Looks F P I) where
+module _ (F : Reader) (P : ℕ → List ℕ → Type 0) (I : Flow → Type 0) (k : LookingKeeps F P I) where
   all_delivered_looks : (f : Flow) (a : origin.Arrival) (xss : List (List ℕ)) →
       StandFrom P f.next xss → I f → I (all_delivered F f a xss)
   unfolding all_delivered StandFrom
@@ -355,27 +357,27 @@ module _ (F : Reader) (P : ℕ → List ℕ → Type 0) (I : Flow → Type 0) (k
       ]
 
   begun_looks : (f : Flow) (p : Payload) (r : Option ℕ) → is_some f.live ≡ false →
-      P p.number p.octets → I f → I (begun F f p r)
-  unfolding begun with_event
+      P p.number p.octets → I f → I (begun_in_payload F f p r)
+  unfolding begun_in_payload with_event
   begun_looks f p None dead part i =
       let new : Option Tail = Some (tail_of p.number (length p.octets)) in
-      let t : Option Tail = cond (is_beginning p.octets) new f.tail in
+      let t : Option Tail = cond (is_header_beginning p.octets) new f.tail in
       k.passes f t p.octets (λ u e.
-      elim (cases_Bool (is_beginning p.octets)) [
+      elim (cases_Bool (is_header_beginning p.octets)) [
         | inl b ↦ subst (IsTailOf P) (some_same (tail_of p.number (length p.octets)) u
-            (sym (cond-true (is_beginning p.octets) new f.tail b) ∙ e))
+            (sym (cond-true (is_header_beginning p.octets) new f.tail b) ∙ e))
             (tail_new P p.number p.octets (k.small p.number p.octets part) b part)
-        | inr b ↦ k.tail f u i (sym (cond-false (is_beginning p.octets) new f.tail b) ∙ e)
+        | inr b ↦ k.tail f u i (sym (cond-false (is_header_beginning p.octets) new f.tail b) ∙ e)
       ]) i
   begun_looks f p (Some n) dead part i = search (arith, onward_small)
 
   rejoined_looks : (f : Flow) (p : Payload) (t : Tail) → is_some f.live ≡ false →
-      goes_on t p.number p.octets ≡ true → IsTailOf P t → P p.number p.octets → I f →
-      I (rejoined F f p t)
-  unfolding rejoined with_event
+      is_continued_by t p.number p.octets ≡ true → IsTailOf P t → P p.number p.octets → I f →
+      I (joined_to_tail F f p t)
+  unfolding joined_to_tail with_event
   rejoined_looks f p t dead on tail part i =
       let xs : List ℕ = p.octets in
-      let more : Flow = in_vain f (Some (lengthened t (length xs))) (octets_of t ++ xs) in
+      let more : Flow = looked_in_vain f (Some (lengthened t (length xs))) (octets_of t ++ xs) in
       let all : Flow = all_delivered F (started f t.number) p.arrival (parts_of t ++ xs ∷ []) in
       elim (cases_lt (t.octets + length xs) 6) [
         | inl few ↦ subst I (sym (cond-true (nat_lt (t.octets + length xs) 6) more all
@@ -391,6 +393,6 @@ module _ (F : Reader) (P : ℕ → List ℕ → Type 0) (I : Flow → Type 0) (k
       ]
 
   pub looked_keeps : (f : Flow) (p : Payload) → is_some f.live ≡ false → P p.number p.octets →
-      I f → I (looked_through F f p (tail_before f.tail p.number p.octets))
+      I f → I (looked_through F f p (tail_continued_by f.tail p.number p.octets))
   unfolding looked_through
   looked_keeps f p dead part i = search (arith, begun_looks, before_is, rejoined_looks)

@@ -8,12 +8,12 @@ use Rattle.tcp_flow.specs.declared.tail.Tail.{Tail}
 use Rattle.tcp_flow.specs.declared.flow.CloseCause.{CloseCause}
 use Rattle.tcp_flow.specs.declared.flow.CloseCause.TheVariants.{Gap}
 use Rattle.tcp_waiting.specs.Numbers.{onward, age, is_to_come}
-use Rattle.tcp_waiting.specs.Payload.{Payload, no_payload, has_as_much, put, place_of, key_of}
-use Rattle.tcp_flow.specs.Flow.{gap, Flow, Event, CaptureEvent, Delivers, Reader, left, with_event, stopped, checked, handed, delivered, started, lives, out_of_step, resumed, awaiting, looked_through, tail_before, told_from, OfCapture, taken, first_of, is_due, at, closed, payload_came, holding, within_window, gone_on, fin_came, heard}
-use Rattle.tcp_flow.specs.Laws.{IsPartOf, OwnMayFollow, MayFollow, AllFollow, AllArePartsOf, due_of, IsTailOf, IsGapless}
+use Rattle.tcp_waiting.specs.Payload.{Payload, no_payload, holds_as_long, put, place_of, key_of}
+use Rattle.tcp_flow.specs.Flow.{with_gap, Flow, Event, CaptureEvent, Delivers, Reader, without_old_octets, with_event, stream_closed, closed_at_fault, delivered_unchecked, delivered, started, lives, out_of_step, begun_if_awaited, awaiting_stream, looked_through, tail_continued_by, with_arrival_told, OfCapture, taken, oldest_held, is_due, at, closed, payload_came, with_held, within_window, gone_on_with_held, fin_came, heard}
+use Rattle.tcp_flow.specs.Laws.{IsPartOf, OwnEventMayFollow, EventMayFollow, EventsMayFollow, AllArePartsOf, due_of, IsTailOf, IsGapless}
 use Rattle.tcp_waiting.proofs.Order.{first_within, first_own}
-use Rattle.tcp_flow.proofs.Tails.{Looks, looked_keeps, tail_map, delivered_id, in_vain}
-use Rattle.tcp_flow.proofs.Preserving.{gap_keeps, Keeps, window_keeps, gone_on_keeps, heard_keeps}
+use Rattle.tcp_flow.proofs.Tails.{LookingKeeps, looked_keeps, tail_map, delivered_id, looked_in_vain}
+use Rattle.tcp_flow.proofs.Preserving.{gap_keeps, StepsKeep, window_keeps, gone_on_keeps, heard_keeps}
 
 onward_onward : (n k a : ℕ) → onward (onward n k) a ≡ onward n (k + a)
 onward_onward n k a = omega arith
@@ -27,9 +27,10 @@ pub reached : (next n : ℕ) → next < 2 ^ 32 → is_to_come next n ≡ false �
 reached next n small h = search (arith, cases_lt, and_cases, nat_lt, ltb-false, lt-ltb, le-ltb)
 
 pub runs_more : (payloads : List Payload) (id : ℕ) (before due behind : Option ℕ) (hs : List Event)
-    (h : Event) → AllFollow payloads id before hs due → MayFollow payloads id due h behind →
-    AllFollow payloads id before (hs ++ h ∷ []) behind
-unfolding AllFollow
+    (h : Event) → EventsMayFollow payloads id before hs due →
+    EventMayFollow payloads id due h behind →
+    EventsMayFollow payloads id before (hs ++ h ∷ []) behind
+unfolding EventsMayFollow
 runs_more payloads id before due behind [] h r t = search (arith)
 runs_more payloads id before due behind (g ∷ hs) h r t = search (
   arith,
@@ -77,13 +78,14 @@ when_false P b x y e p = search (arith, cond-false)
 
 left_has : (payloads : List Payload) (id next : ℕ) (live : Bool) (p : Payload) →
     IsPartOf payloads id p.number p.octets →
-    IsPartOf payloads id (left next live p).number (left next live p).octets
-unfolding left
+    IsPartOf payloads id (without_old_octets next live p).number
+    (without_old_octets next live p).octets
+unfolding without_old_octets
 left_has payloads id next live p h = search (arith, either, nat_lt, not, has_more)
 
 left_due : (next : ℕ) (live : Bool) (p : Payload) → next < 2 ^ 32 → live ≡ true →
-    is_to_come next p.number ≡ false → (left next live p).number ≡ next
-unfolding left
+    is_to_come next p.number ≡ false → (without_old_octets next live p).number ≡ next
+unfolding without_old_octets
 left_due next live p small l h = search (
   arith,
   when_false,
@@ -95,13 +97,14 @@ left_due next live p small l h = search (
 )
 
 stopped_true : (payloads : List Payload) (f : Flow) (n : ℕ) (cause : CloseCause) →
-    IsGapless payloads f → lives f.live f.waits ≡ true → IsGapless payloads (stopped f n cause)
-unfolding with_event OwnMayFollow
+    IsGapless payloads f → lives f.live f.waits ≡ true →
+    IsGapless payloads (stream_closed f n cause)
+unfolding with_event OwnEventMayFollow
 stopped_true payloads f n cause t live = search (arith, cond-true, runs_more)
 
 checked_true : (payloads : List Payload) (f : Flow) (r : Option ℕ) → IsGapless payloads f →
-    lives f.live f.waits ≡ true → IsGapless payloads (checked f r)
-unfolding checked
+    lives f.live f.waits ≡ true → IsGapless payloads (closed_at_fault f r)
+unfolding closed_at_fault
 checked_true payloads f None t live = t
 checked_true payloads f (Some at) t live = search (arith, stopped_true)
 
@@ -113,13 +116,13 @@ capture_true payloads f e t = search (arith, runs_more, true≢false, is_some)
 delivered_true : (F : Reader) (payloads : List Payload) (g : Flow) (p : Payload) (n : ℕ) →
     AllArePartsOf payloads g.held
     → ((t : Tail) → g.tail ≡ Some t → IsTailOf (IsPartOf payloads g.id) t)
-    → AllFollow payloads g.id None g.events (Some n) →
+    → EventsMayFollow payloads g.id None g.events (Some n) →
     IsPartOf payloads g.id n p.octets → p.number ≡ n → lives g.live g.waits ≡ true
     → IsGapless payloads (delivered F g p)
-unfolding delivered with_event OwnMayFollow
+unfolding delivered with_event OwnEventMayFollow
 delivered_true F payloads g p n held tail runs has e live =
-    let d : Flow = handed g p in
-    let more : AllFollow payloads g.id None d.events (Some d.next) =
+    let d : Flow = delivered_unchecked g p in
+    let more : EventsMayFollow payloads g.id None d.events (Some d.next) =
     runs_more payloads g.id None (Some n) (Some d.next) g.events (Delivers g.id p.octets) runs
     (inl (refl, (has, ap (λ (k : ℕ). onward k (length p.octets)) e))) in
     checked_true payloads d (F.faulted d.events)
@@ -128,7 +131,7 @@ delivered_true F payloads g p n held tail runs has e live =
       held = held;
       tail = tail;
       events =
-          when_true (AllFollow payloads g.id None d.events) (lives g.live g.waits)
+          when_true (EventsMayFollow payloads g.id None d.events) (lives g.live g.waits)
           (Some d.next) None live more;
     }) live
 
@@ -136,15 +139,15 @@ delivered_live : (F : Reader) (payloads : List Payload) (g : Flow) (p : Payload)
     IsGapless payloads g → lives g.live g.waits ≡ true → p.number ≡ g.next →
     IsPartOf payloads g.id p.number p.octets → IsGapless payloads (delivered F g p)
 delivered_live F payloads g p t live due has =
-    let runs : AllFollow payloads g.id None g.events (Some g.next) =
-    subst (AllFollow payloads g.id None g.events)
+    let runs : EventsMayFollow payloads g.id None g.events (Some g.next) =
+    subst (EventsMayFollow payloads g.id None g.events)
     (cond-true (lives g.live g.waits) (Some g.next) None live) t.events in
     delivered_true F payloads g p g.next t.held t.tail runs
     (subst (λ (n : ℕ). IsPartOf payloads g.id n p.octets) due has) due live
 
 started_true : (payloads : List Payload) (g : Flow) (n : ℕ) → n < 2 ^ 32 →
     lives g.live g.waits ≡ false → IsGapless payloads g → IsGapless payloads (started g n)
-unfolding with_event OwnMayFollow
+unfolding with_event OwnEventMayFollow
 started_true payloads g n small dead t = search (arith, cond-false, true≢false, is_some, runs_more)
 
 part_small : (payloads : List Payload) (id n : ℕ) (xs : List ℕ) → IsPartOf payloads id n xs →
@@ -160,7 +163,7 @@ closed_true : (payloads : List Payload) (f : Flow) (cause : CloseCause) → IsGa
     IsGapless payloads (closed f cause)
 unfolding closed
 closed_true payloads f cause t =
-    let c : Flow = stopped f f.next cause in
+    let c : Flow = stream_closed f f.next cause in
     elim (cases_Bool (lives f.live f.waits)) [
       | inl e ↦ when_true (IsGapless payloads) (lives f.live f.waits) c (out_of_step f) e
           (stopped_true payloads f f.next cause t e)
@@ -174,21 +177,21 @@ unfolding closed with_event
 closed_idle f cause = search (arith, either)
 
 awaiting_true : (payloads : List Payload) (f : Flow) (count : ℕ) → IsGapless payloads f →
-    IsGapless payloads (awaiting f count)
+    IsGapless payloads (awaiting_stream f count)
 awaiting_true payloads f count t =
     let c : IsGapless payloads (closed f Gap) = closed_true payloads f Gap t in
     record {
       next = onward_small f.next count;
       held = c.held;
       tail = c.tail;
-      events = subst (AllFollow payloads (closed f Gap).id None (closed f Gap).events)
+      events = subst (EventsMayFollow payloads (closed f Gap).id None (closed f Gap).events)
           (cond-false (lives (closed f Gap).live (closed f Gap).waits) (Some (closed f Gap).next)
           None (closed_idle f Gap)) c.events;
     }
 
 -- the stream that a flow waits for begins at the number that is due
 resumed_true : (payloads : List Payload) (f : Flow) → IsGapless payloads f →
-    IsGapless payloads (resumed f)
+    IsGapless payloads (begun_if_awaited f)
 resumed_true payloads f t =
     elim (cases_Bool f.waits) [
       | inl e ↦ when_true (IsGapless payloads) f.waits (started f f.next) f e
@@ -199,30 +202,30 @@ resumed_true payloads f t =
 
 -- a flow in step then has a live stream, and the same number is due
 pub resumed_lives : (f : Flow) → is_some f.live ≡ true →
-    lives (resumed f).live (resumed f).waits ≡ true
+    lives (begun_if_awaited f).live (begun_if_awaited f).waits ≡ true
 unfolding with_event
 resumed_lives f e = search (arith, cases_Bool, when_true, when_false)
 
-pub resumed_next : (f : Flow) → (resumed f).next ≡ f.next
+pub resumed_next : (f : Flow) → (begun_if_awaited f).next ≡ f.next
 unfolding with_event
 resumed_next f = search (arith, either)
 
-resumed_id : (f : Flow) → (resumed f).id ≡ f.id
+resumed_id : (f : Flow) → (begun_if_awaited f).id ≡ f.id
 unfolding with_event
 resumed_id f = search (arith, either)
 
 -- a flow of an id that has no gaps
-record IsTrueOf (payloads : List Payload) (id : ℕ) (f : Flow) : Type 0 where
-  same : f.id ≡ id
-  gapless : IsGapless payloads f
+record IsGaplessFlow (payloads : List Payload) (id : ℕ) (flow : Flow) : Type 0 where
+  same : flow.id ≡ id
+  gapless : IsGapless payloads flow
 
 passed_true : (payloads : List Payload) (g : Flow) (t : Option Tail) (xs : List ℕ) →
     ((u : Tail) → t ≡ Some u → IsTailOf (IsPartOf payloads g.id) u) → IsGapless payloads g →
-    IsGapless payloads (in_vain g t xs)
+    IsGapless payloads (looked_in_vain g t xs)
 passed_true payloads g t xs tail h = search (arith, capture_true)
 
 looks_true : (F : Reader) (payloads : List Payload) (id : ℕ) →
-    Looks F (IsPartOf payloads id) (IsTrueOf payloads id)
+    LookingKeeps F (IsPartOf payloads id) (IsGaplessFlow payloads id)
 unfolding with_event
 looks_true F payloads id =
     record {
@@ -248,24 +251,24 @@ looks_true F payloads id =
     }
 
 from_true : (payloads : List Payload) (f : Flow) (p : Payload) → IsGapless payloads f →
-    IsGapless payloads (told_from f p)
-unfolding told_from
+    IsGapless payloads (with_arrival_told f p)
+unfolding with_arrival_told
 from_true payloads f p t = search (arith, capture_true)
 
 pub taken_true : (F : Reader) (payloads : List Payload) (f : Flow) (p : Payload) →
     IsGapless payloads f → IsPartOf payloads f.id p.number p.octets →
     ((is_some f.live) ≡ true → is_to_come f.next p.number ≡ false) →
     IsGapless payloads (taken F f p)
-unfolding taken told_from with_event
+unfolding taken with_arrival_told with_event
 taken_true F payloads f p t has reach =
-    let q : Payload = left f.next (is_some f.live) p in
-    let left : IsPartOf payloads f.id q.number q.octets =
+    let q : Payload = without_old_octets f.next (is_some f.live) p in
+    let own_part : IsPartOf payloads f.id q.number q.octets =
     left_has payloads f.id f.next (is_some f.live) p has in
-    let g : Flow = told_from f p in
+    let g : Flow = with_arrival_told f p in
     let u : IsGapless payloads g = from_true payloads f p t in
-    let r : Flow = resumed g in
+    let r : Flow = begun_if_awaited g in
     let d : Flow = delivered F r q in
-    let b : Flow = looked_through F g q (tail_before f.tail q.number q.octets) in
+    let b : Flow = looked_through F g q (tail_continued_by f.tail q.number q.octets) in
     let live : IsGapless payloads (cond (is_some f.live) d b) =
     elim (cases_Bool (is_some f.live)) [
       | inl e ↦
@@ -273,16 +276,17 @@ taken_true F payloads f p t has reach =
           when_true (IsGapless payloads) (is_some f.live) d b e
           (delivered_live F payloads r q (resumed_true payloads g u) (resumed_lives g e)
           (due ∙ sym (resumed_next g))
-          (subst (λ (n : ℕ). IsPartOf payloads n q.number q.octets) (sym (resumed_id g)) left)))
+          (subst (λ (n : ℕ). IsPartOf payloads n q.number q.octets)
+          (sym (resumed_id g)) own_part)))
       | inr e ↦ when_false (IsGapless payloads) (is_some f.live) d b e
-          (looked_keeps F (IsPartOf payloads f.id) (IsTrueOf payloads f.id)
-          (looks_true F payloads f.id) g q e left
+          (looked_keeps F (IsPartOf payloads f.id) (IsGaplessFlow payloads f.id)
+          (looks_true F payloads f.id) g q e own_part
           (record { same = refl; gapless = u })).gapless
     ] in
     either (IsGapless payloads) (nat_eq (length q.octets) 0) f (cond (is_some f.live) d b) t live
 
-pub true_keeps : (F : Reader) (payloads : List Payload) → Keeps F (IsGapless payloads)
-unfolding first_of is_due at closed
+pub true_keeps : (F : Reader) (payloads : List Payload) → StepsKeep F (IsGapless payloads)
+unfolding oldest_held is_due at closed
 true_keeps F payloads =
     record {
       takes =
@@ -332,22 +336,22 @@ all_grow payloads p [] h = tt
 all_grow payloads p (q ∷ ps) h = search (arith, has_grow, all_grow payloads p ps h.1)
 
 own_grow : (payloads : List Payload) (p : Payload) (id : ℕ) (before : Option ℕ) (h : Event)
-    (behind : Option ℕ) → OwnMayFollow payloads id before h behind →
-    OwnMayFollow (payloads ++ p ∷ []) id before h behind
-unfolding OwnMayFollow
+    (behind : Option ℕ) → OwnEventMayFollow payloads id before h behind →
+    OwnEventMayFollow (payloads ++ p ∷ []) id before h behind
+unfolding OwnEventMayFollow
 own_grow payloads p id (Some due) (Delivers flow xs) (Some next) t = search (arith, has_grow)
 own_grow payloads p id before h behind t = t
 
 turns_grow : (payloads : List Payload) (p : Payload) (id : ℕ) (before : Option ℕ) (h : Event)
-    (behind : Option ℕ) → MayFollow payloads id before h behind →
-    MayFollow (payloads ++ p ∷ []) id before h behind
+    (behind : Option ℕ) → EventMayFollow payloads id before h behind →
+    EventMayFollow (payloads ++ p ∷ []) id before h behind
 turns_grow payloads p id before h behind (inl t) = search (arith, own_grow)
 turns_grow payloads p id before h behind (inr t) = inr t
 
 pub runs_grow : (payloads : List Payload) (p : Payload) (id : ℕ) (before : Option ℕ)
-    (hs : List Event) (behind : Option ℕ) → AllFollow payloads id before hs behind →
-    AllFollow (payloads ++ p ∷ []) id before hs behind
-unfolding AllFollow
+    (hs : List Event) (behind : Option ℕ) → EventsMayFollow payloads id before hs behind →
+    EventsMayFollow (payloads ++ p ∷ []) id before hs behind
+unfolding EventsMayFollow
 runs_grow payloads p id before [] behind r = r
 runs_grow payloads p id before (h ∷ hs) behind r = search (
   arith,
@@ -375,18 +379,19 @@ has_last payloads p small = search (arith, get_or, get_or-append_right, length-a
 
 left_all : (payloads : List Payload) (next : ℕ) (live : Bool) (p : Payload) →
     IsPartOf payloads p.flow p.number p.octets →
-    IsPartOf payloads (left next live p).flow (left next live p).number (left next live p).octets
-unfolding left
+    IsPartOf payloads (without_old_octets next live p).flow (without_old_octets next live p).number
+    (without_old_octets next live p).octets
+unfolding without_old_octets
 left_all payloads next live p h = search (arith, either, nat_lt, not, has_more)
 
 pub came_true : (F : Reader) (payloads' : List Payload) (f : Flow) (p : Payload) →
     p.number < 2 ^ 32 → IsGapless payloads' f → IsGapless (payloads' ++ p ∷ []) (payload_came F f p)
-unfolding payload_came holding
+unfolding payload_came with_held
 came_true F payloads' f p small t =
     let all : List Payload = payloads' ++ p ∷ [] in
-    let q : Payload = left f.next (is_some f.live) p in
+    let q : Payload = without_old_octets f.next (is_some f.live) p in
     let u : IsGapless all f = true_grows payloads' p f t in
-    let k : Keeps F (IsGapless all) = true_keeps F all in
+    let k : StepsKeep F (IsGapless all) = true_keeps F all in
     let h : Flow = record f { held = put q f.held } in
     let v : IsGapless all h = record {
       next = u.next;
@@ -397,23 +402,23 @@ came_true F payloads' f p small t =
       events = u.events;
     } in
     either (IsGapless all) (nat_eq (length q.octets) 0
-    || has_as_much f.id q.number (length q.octets) f.held) f
-    (within_window F (length f.held + 1) (gone_on F h)) u
-    (window_keeps F (IsGapless all) k (length f.held + 1) (gone_on F h)
+    || holds_as_long f.id q.number (length q.octets) f.held) f
+    (within_window F (length f.held + 1) (gone_on_with_held F h)) u
+    (window_keeps F (IsGapless all) k (length f.held + 1) (gone_on_with_held F h)
     (gone_on_keeps F (IsGapless all) k h v))
 
 pub fin_true : (F : Reader) (payloads' : List Payload) (f : Flow) (n : ℕ) → IsGapless payloads' f →
     IsGapless payloads' (fin_came F f n)
 unfolding fin_came
 fin_true F payloads' f n t =
-    let k : Keeps F (IsGapless payloads') = true_keeps F payloads' in
+    let k : StepsKeep F (IsGapless payloads') = true_keeps F payloads' in
     either (IsGapless payloads') ((is_some f.live) && nat_eq (age f.next n) 0)
-    (gone_on F (record f { fin = Some n })) f
+    (gone_on_with_held F (record f { fin = Some n })) f
     (gone_on_keeps F (IsGapless payloads') k (record f { fin = Some n }) (k.fins f (Some n) t))
     t
 
 pub gap_true : (F : Reader) (payloads : List Payload) (f : Flow) → IsGapless payloads f →
-    IsGapless payloads (gap F f)
+    IsGapless payloads (with_gap F f)
 gap_true F payloads f t = gap_keeps F (IsGapless payloads) (true_keeps F payloads) f t
 
 pub heard_true : (F : Reader) (payloads' : List Payload) (count : ℕ) (h : Heard) (f : Flow) →
@@ -423,7 +428,7 @@ heard_true F payloads' count h f t = heard_keeps F (IsGapless payloads') (true_k
 
 pub fresh_true : (f : Flow) → f.next < 2 ^ 32 → (is_some f.live) ≡ false → f.tail ≡ None →
     f.held ≡ [] → f.events ≡ [] → IsGapless [] f
-unfolding AllArePartsOf AllFollow
+unfolding AllArePartsOf EventsMayFollow
 fresh_true f small dead lone none quiet = search (
   arith,
   true≢false,

@@ -9,7 +9,7 @@ use Rattle.tcp_flow.specs.declared.tail.Tail.{Tail}
 use Rattle.tcp_flow.specs.declared.hearing.Heard.{Heard}
 use Rattle.tcp_segment.specs.declared.endpoint.Flow as endpoints
 use Rattle.tcp_waiting.specs.declared.arrival.Arrival as origin
-use Rattle.tcp_waiting.specs.Payload.{Payload, payload, no_payload, without_first, window, first, is_far, has_as_much, put}
+use Rattle.tcp_waiting.specs.Payload.{Payload, payload, no_payload, without_first, window, oldest_index, holds_beyond_window, holds_as_long, put}
 use Rattle.tcp_waiting.specs.Numbers.{ahead, onward, age, is_to_come}
 
 -- what happens in a capture apart from its flows: what is told next came in this packet; these
@@ -31,7 +31,7 @@ pub data Event : Type 0 where
   OfCapture : CaptureEvent → Event
 
 -- the flow in which an event happens, if it happens in one
-abbrev pub flow_of : Event → Option ℕ
+abbrev pub flow_of : (event : Event) → Option ℕ
 flow_of (Opens id flow) = Some id
 flow_of (Begins id start) = Some id
 flow_of (Delivers id octets) = Some id
@@ -67,66 +67,71 @@ pub record Flow : Type 0 where
 
 -- whether a number is at most W before or after the one that is due, as the window of a receiver
 -- reaches (RFC 5961, Sections 3.2 and 4.2)
-abbrev pub is_near : ℕ → ℕ → Bool
+abbrev pub is_near : (next number : ℕ) → Bool
 is_near next number = nat_le (ahead next number) window || nat_le (ahead number next) window
 
 -- whether octets begin with `GIOP` 01 and 00, 01 or 02
-abbrev pub is_header : List ℕ → Bool
-is_header xs =
-    nat_le 6 (length xs) && nat_eq (get_or xs 0 0) 71 && nat_eq (get_or xs 1 0) 73
-    && nat_eq (get_or xs 2 0) 79 && nat_eq (get_or xs 3 0) 80
-    && nat_eq (get_or xs 4 0) 1 && nat_le (get_or xs 5 0) 2
+abbrev pub is_header : (octets : List ℕ) → Bool
+is_header octets =
+    nat_le 6 (length octets) && nat_eq (get_or octets 0 0) 71 && nat_eq (get_or octets 1 0) 73
+    && nat_eq (get_or octets 2 0) 79 && nat_eq (get_or octets 3 0) 80
+    && nat_eq (get_or octets 4 0) 1 && nat_le (get_or octets 5 0) 2
 
 -- the index of the first header
-unfoldable pub header_at : List ℕ → Option ℕ
-header_at [] = None
-header_at (x ∷ xs) = cond (is_header (x ∷ xs)) (Some 0) (option_map suc (header_at xs))
+unfoldable pub index_of_header : (octets : List ℕ) → Option ℕ
+index_of_header [] = None
+index_of_header (x ∷ xs) = cond (is_header (x ∷ xs)) (Some 0) (option_map suc (index_of_header xs))
 
 -- four octets as a number, the most significant first
-abbrev pub weighed : ℕ → ℕ → ℕ → ℕ → ℕ
-weighed a b c d = ((a * 256 + b) * 256 + c) * 256 + d
+abbrev pub big_endian_number : (first second third fourth : ℕ) → ℕ
+big_endian_number first second third fourth = ((first * 256 + second) * 256 + third) * 256 + fourth
 
 -- the size that a header of 12 octets has, in its byte order (GIOP Message Header)
-abbrev pub size_in : List ℕ → ℕ
-size_in xs =
-    cond (nat_eq (get_or xs 6 0 % 2) 1)
-    (weighed (get_or xs 11 0) (get_or xs 10 0) (get_or xs 9 0) (get_or xs 8 0))
-    (weighed (get_or xs 8 0) (get_or xs 9 0) (get_or xs 10 0) (get_or xs 11 0))
+abbrev pub message_size_in : (octets : List ℕ) → ℕ
+message_size_in octets =
+    cond (nat_eq (get_or octets 6 0 % 2) 1)
+    (big_endian_number (get_or octets 11 0) (get_or octets 10 0) (get_or octets 9 0)
+    (get_or octets 8 0))
+    (big_endian_number (get_or octets 8 0) (get_or octets 9 0) (get_or octets 10 0)
+    (get_or octets 11 0))
 
 -- where the first message ends, if all of it is there
-abbrev pub message_end : List ℕ → Option ℕ
-message_end xs =
-    cond (nat_lt (length xs) 12) None
-    (cond (nat_lt (length xs) (12 + size_in xs)) None (Some (12 + size_in xs)))
+abbrev pub message_end : (octets : List ℕ) → Option ℕ
+message_end octets =
+    cond (nat_lt (length octets) 12) None
+    (cond (nat_lt (length octets) (12 + message_size_in octets)) None
+    (Some (12 + message_size_in octets)))
 
 -- whether octets begin with the six octets, as far as they go
-abbrev pub is_front : List ℕ → Bool
-is_front xs =
-    nat_eq (get_or xs 0 71) 71 && nat_eq (get_or xs 1 73) 73 && nat_eq (get_or xs 2 79) 79
-    && nat_eq (get_or xs 3 80) 80 && nat_eq (get_or xs 4 1) 1 && nat_le (get_or xs 5 0) 2
+abbrev pub may_be_header : (octets : List ℕ) → Bool
+may_be_header octets =
+    nat_eq (get_or octets 0 71) 71 && nat_eq (get_or octets 1 73) 73 && nat_eq (get_or octets 2 79)
+    79
+    && nat_eq (get_or octets 3 80) 80 && nat_eq (get_or octets 4 1) 1 && nat_le (get_or octets 5 0)
+    2
 
 -- whether messages follow one another up to the end, the last perhaps cut, and one of them is
 -- whole, or one before them was (`whole`); at most `count` are looked at
-unfoldable pub chain_from : ℕ → Bool → List ℕ → Bool
-chain_from zero whole xs = whole
-chain_from (suc count) whole xs =
-    cond (nat_eq (length xs) 0) whole
-    (cond (is_front xs) (elim (message_end xs) [
+unfoldable pub chain_from : (count : ℕ) (whole : Bool) (octets : List ℕ) → Bool
+chain_from zero whole octets = whole
+chain_from (suc count) whole octets =
+    cond (nat_eq (length octets) 0) whole
+    (cond (may_be_header octets) (elim (message_end octets) [
       | None ↦ whole
-      | Some end ↦ chain_from count true (drop end xs)
+      | Some end ↦ chain_from count true (drop end octets)
     ]) false)
 
 -- whether messages follow one another up to the end, one of them whole
-abbrev pub is_chain : List ℕ → Bool
-is_chain xs = chain_from (length xs) false xs
+abbrev pub is_chain : (octets : List ℕ) → Bool
+is_chain octets = chain_from (length octets) false octets
 
 -- where a stream begins in octets that are looked through: at the first place with the six octets,
 -- if it is the front or messages follow one another from it up to the end
-unfoldable pub stream_at : List ℕ → Option ℕ
-stream_at xs =
-    elim (header_at xs) [
+unfoldable pub stream_begin_in : (octets : List ℕ) → Option ℕ
+stream_begin_in octets =
+    elim (index_of_header octets) [
       | None ↦ None
-      | Some place ↦ cond (nat_eq place 0 || is_chain (drop place xs)) (Some place) None
+      | Some place ↦ cond (nat_eq place 0 || is_chain (drop place octets)) (Some place) None
     ]
 
 -- the first five of the six octets, which are the same in each version
@@ -134,24 +139,25 @@ abbrev pub first_five : List ℕ
 first_five = 71 ∷ 73 ∷ 79 ∷ 80 ∷ 1 ∷ []
 
 -- whether octets are the first one to five of the six octets
-abbrev pub is_beginning : List ℕ → Bool
-is_beginning xs = nat_lt 0 (length xs) && nat_lt (length xs) 6 && is_front xs
+abbrev pub is_header_beginning : (octets : List ℕ) → Bool
+is_header_beginning octets = nat_lt 0 (length octets) && nat_lt
+    (length octets) 6 && may_be_header octets
 
 -- octets, cut into parts of these lengths
-unfoldable pub cut_up : List ℕ → List ℕ → List (List ℕ)
-cut_up xs [] = []
-cut_up xs (n ∷ ns) = take n xs ∷ cut_up (drop n xs) ns
+unfoldable pub cut_up : (octets sizes : List ℕ) → List (List ℕ)
+cut_up octets [] = []
+cut_up octets (n ∷ ns) = take n octets ∷ cut_up (drop n octets) ns
 
 -- the octets of a tail, which are the first of the six octets
-abbrev pub octets_of : Tail → List ℕ
+abbrev pub octets_of : (tail : Tail) → List ℕ
 octets_of t = take t.octets first_five
 
 -- the octets of each payload of a tail
-abbrev pub parts_of : Tail → List (List ℕ)
+abbrev pub parts_of : (tail : Tail) → List (List ℕ)
 parts_of t = cut_up first_five (take t.count t.parts)
 
 -- the tail of one payload with a number and `count` octets
-abbrev pub tail_of : ℕ → ℕ → Tail
+abbrev pub tail_of : (number count : ℕ) → Tail
 tail_of n count = record {
   number = n;
   octets = count;
@@ -160,7 +166,7 @@ tail_of n count = record {
 }
 
 -- a tail with one more payload of `count` octets; it has five payloads at most
-abbrev pub lengthened : Tail → ℕ → Tail
+abbrev pub lengthened : (tail : Tail) (count : ℕ) → Tail
 lengthened t count =
     cond (nat_lt t.count 5) (record t {
       octets = t.octets + count;
@@ -170,58 +176,61 @@ lengthened t count =
 
 -- whether octets at a number go on from a tail: the tail ends there, and both together begin with
 -- the six octets or are a beginning of them
-abbrev pub goes_on : Tail → ℕ → List ℕ → Bool
-goes_on t n xs = nat_eq (onward t.number t.octets) n && is_front (octets_of t ++ xs)
+abbrev pub is_continued_by : (tail : Tail) (number : ℕ) (octets : List ℕ) → Bool
+is_continued_by t number octets =
+    nat_eq (onward t.number t.octets) number && may_be_header (octets_of t ++ octets)
 
 -- the tail, if octets at a number go on from it
-unfoldable pub tail_before : Option Tail → ℕ → List ℕ → Option Tail
-tail_before None n xs = None
-tail_before (Some t) n xs = cond (goes_on t n xs) (Some t) None
+unfoldable pub tail_continued_by : (tail : Option Tail) (number : ℕ) (octets : List ℕ) → Option Tail
+tail_continued_by None number octets = None
+tail_continued_by (Some t) number octets = cond (is_continued_by t number octets) (Some t) None
 
 -- whether a stream lives, if the flow is in step or not and waits or not
-abbrev pub lives : Option ℕ → Bool → Bool
+abbrev pub lives : (live : Option ℕ) (waits : Bool) → Bool
 lives live waits = is_some live && not waits
 
 -- what is left of a payload without the octets before `next`; if the flow isn't in step and the
 -- payload begins more than W before `next`, all of it is left
-unfoldable pub left : ℕ → Bool → Payload → Payload
-left next live p = cond (nat_lt window (age next p.number) && not live) p
+unfoldable pub without_old_octets : (next : ℕ) (live : Bool) (payload : Payload) → Payload
+without_old_octets next live p = cond (nat_lt window (age next p.number) && not live) p
     (without_first (age next p.number) p)
 
-unfoldable pub with_event : Flow → Event → Flow
+unfoldable pub with_event : (flow : Flow) (event : Event) → Flow
 with_event f h = record f { events = f.events ++ h ∷ [] }
 
 -- the flow is no longer in step
-abbrev pub out_of_step : Flow → Flow
+abbrev pub out_of_step : (flow : Flow) → Flow
 out_of_step f = record f { live = None; waits = false }
 
 -- the live stream closes, and octets from a number on are in no stream
-abbrev pub stopped : Flow → ℕ → CloseCause → Flow
-stopped f since cause = with_event (record (out_of_step f) { since = since }) (Closes f.id cause)
+abbrev pub stream_closed : (flow : Flow) (since : ℕ) (cause : CloseCause) → Flow
+stream_closed f since cause = with_event (record (out_of_step f) { since = since })
+    (Closes f.id cause)
 
 -- the number after an octet of the live stream; the octet is counted from 1
-abbrev pub number_after : Flow → ℕ → ℕ
-number_after f at = onward (unwrap_or f.live f.next) at
+abbrev pub number_after_octet : (flow : Flow) (octet : ℕ) → ℕ
+number_after_octet f at = onward (unwrap_or f.live f.next) at
 
 -- the live stream closes if its reader is at a fault: what comes after the octet of the fault is in
 -- no stream
-unfoldable pub checked : Flow → Option ℕ → Flow
-checked f None = f
-checked f (Some at) = stopped f (number_after f at) Fault
+unfoldable pub closed_at_fault : (flow : Flow) (octet : Option ℕ) → Flow
+closed_at_fault f None = f
+closed_at_fault f (Some at) = stream_closed f (number_after_octet f at) Fault
 
 -- octets are delivered to the live stream
-abbrev pub handed : Flow → Payload → Flow
-handed f p =
+abbrev pub delivered_unchecked : (flow : Flow) (payload : Payload) → Flow
+delivered_unchecked f p =
     with_event (record f { next = onward p.number (length p.octets) }) (Delivers f.id p.octets)
 
 -- octets are delivered to the live stream, and its reader may then be at a fault
-unfoldable pub delivered : Reader → Flow → Payload → Flow
-delivered F f p = checked (handed f p) (F.faulted (handed f p).events)
+unfoldable pub delivered : (reader : Reader) (flow : Flow) (payload : Payload) → Flow
+delivered F f p = closed_at_fault (delivered_unchecked f p)
+    (F.faulted (delivered_unchecked f p).events)
 
 -- What a stream begins with that begins at a number. It is found if the flow didn't wait for it,
 -- and octets before it are in no stream or the flow had a stream before it. It is also found if an
 -- earlier stream of the flow was.
-abbrev pub start_at : Flow → ℕ → Start
+abbrev pub start_at : (flow : Flow) (number : ℕ) → Start
 start_at f n = record {
   number = n;
   passed = ahead f.since n;
@@ -229,32 +238,35 @@ start_at f n = record {
 }
 
 -- a stream begins at a number, which is then due
-abbrev pub started : Flow → ℕ → Flow
-started f n = with_event (record f {
-  next = n;
-  live = Some n;
+abbrev pub started : (flow : Flow) (number : ℕ) → Flow
+started f number = with_event (record f {
+  next = number;
+  live = Some number;
   waits = false;
   has_begun = true;
-  is_found = (start_at f n).is_found;
+  is_found = (start_at f number).is_found;
   tail = None;
-}) (Begins f.id (start_at f n))
+}) (Begins f.id (start_at f number))
 
 -- the stream that the flow waits for, if it waits for one, begins with the octet that is due
-abbrev pub resumed : Flow → Flow
-resumed f = cond f.waits (started f f.next) f
+abbrev pub begun_if_awaited : (flow : Flow) → Flow
+begun_if_awaited f = cond f.waits (started f f.next) f
 
 -- if a stream begins in a payload, the octets from there on are delivered to it; if not, the octets
 -- were looked through in vain, and are the new tail if they are a beginning of the six octets
-unfoldable pub begun : Reader → Flow → Payload → Option ℕ → Flow
-begun F f p None =
+unfoldable pub begun_in_payload : (reader : Reader) (flow : Flow) (payload : Payload)
+    (index : Option ℕ) → Flow
+begun_in_payload F f p None =
     with_event (record f {
-      tail = cond (is_beginning p.octets) (Some (tail_of p.number (length p.octets))) f.tail;
+      tail = cond (is_header_beginning p.octets) (Some (tail_of p.number (length p.octets))) f.tail;
     }) (OfCapture (Passes p.octets))
-begun F f p (Some i) = delivered F (started f (onward p.number i)) (without_first i p)
+begun_in_payload F f p (Some index) = delivered F (started f (onward p.number index))
+    (without_first index p)
 
 -- the octets of each payload are delivered while the stream lives; what comes after a fault of its
 -- reader isn't
-unfoldable pub all_delivered : Reader → Flow → origin.Arrival → List (List ℕ) → Flow
+unfoldable pub all_delivered : (reader : Reader) (flow : Flow) (arrival : origin.Arrival)
+    (parts : List (List ℕ)) → Flow
 all_delivered F f arrival [] = f
 all_delivered F f arrival (xs ∷ xss) =
     cond (lives f.live f.waits)
@@ -262,46 +274,48 @@ all_delivered F f arrival (xs ∷ xss) =
 
 -- a payload goes on from a tail: if both together have fewer than six octets, they are the new
 -- tail; if not, a stream begins where the tail does, and gets the octets of both
-unfoldable pub rejoined : Reader → Flow → Payload → Tail → Flow
-rejoined F f p t =
+unfoldable pub joined_to_tail : (reader : Reader) (flow : Flow) (payload : Payload)
+    (tail : Tail) → Flow
+joined_to_tail F f p t =
     cond (nat_lt (t.octets + length p.octets) 6)
     (with_event (record f { tail = Some (lengthened t (length p.octets)) })
     (OfCapture (Passes (octets_of t ++ p.octets))))
     (all_delivered F (started f t.number) p.arrival (parts_of t ++ p.octets ∷ []))
 
 -- a payload is looked through, after the tail that it goes on from, if there is one
-unfoldable pub looked_through : Reader → Flow → Payload → Option Tail → Flow
-looked_through F f p None = begun F f p (stream_at p.octets)
-looked_through F f p (Some t) = rejoined F f p t
+unfoldable pub looked_through : (reader : Reader) (flow : Flow) (payload : Payload)
+    (tail : Option Tail) → Flow
+looked_through F f p None = begun_in_payload F f p (stream_begin_in p.octets)
+looked_through F f p (Some t) = joined_to_tail F f p t
 
 -- what is told next came in the packet of a payload
-unfoldable pub told_from : Flow → Payload → Flow
-told_from f p = with_event f (OfCapture (ComesFrom p.arrival))
+unfoldable pub with_arrival_told : (flow : Flow) (payload : Payload) → Flow
+with_arrival_told f p = with_event f (OfCapture (ComesFrom p.arrival))
 
 -- a payload is taken: it is delivered to the stream that is live or waited for, or looked through
 -- for the beginning of one
-unfoldable pub taken : Reader → Flow → Payload → Flow
+unfoldable pub taken : (reader : Reader) (flow : Flow) (payload : Payload) → Flow
 taken F f p =
-    let q : Payload = left f.next (is_some f.live) p in
+    let q : Payload = without_old_octets f.next (is_some f.live) p in
     cond (nat_eq (length q.octets) 0) f
-    (cond (is_some f.live) (delivered F (resumed (told_from f p)) q)
-    (looked_through F (told_from f p) q (tail_before f.tail q.number q.octets)))
+    (cond (is_some f.live) (delivered F (begun_if_awaited (with_arrival_told f p)) q)
+    (looked_through F (with_arrival_told f p) q (tail_continued_by f.tail q.number q.octets)))
 
-unfoldable pub first_of : Flow → Option ℕ
-first_of f = first f.id f.next f.held
+unfoldable pub oldest_held : (flow : Flow) → Option ℕ
+oldest_held f = oldest_index f.id f.next f.held
 
-unfoldable pub at : Flow → ℕ → Payload
-at f i = get_or f.held i no_payload
+unfoldable pub at : (flow : Flow) (index : ℕ) → Payload
+at f index = get_or f.held index no_payload
 
 -- whether the held payload at an index is taken now
-unfoldable pub is_due : Flow → ℕ → Bool
-is_due f i = not ((is_some f.live) && is_to_come f.next (at f i).number)
+unfoldable pub is_due : (flow : Flow) (index : ℕ) → Bool
+is_due f index = not ((is_some f.live) && is_to_come f.next (at f index).number)
 
 -- the first held payload is taken while it is due, at most `count` times
-unfoldable pub drained_at_most : Reader → ℕ → Flow → Flow
+unfoldable pub drained_at_most : (reader : Reader) (count : ℕ) (flow : Flow) → Flow
 drained_at_most F zero f = f
 drained_at_most F (suc count) f =
-    elim (first_of f) [
+    elim (oldest_held f) [
       | None ↦ f
       | Some i ↦
           elim (is_due f i) [
@@ -311,54 +325,54 @@ drained_at_most F (suc count) f =
           ]
     ]
 
-unfoldable pub drained : Reader → Flow → Flow
-drained F f = drained_at_most F (length f.held) f
+unfoldable pub drained_due : (reader : Reader) (flow : Flow) → Flow
+drained_due F f = drained_at_most F (length f.held) f
 
 -- whether the FIN that is kept is reached
-unfoldable pub fin_is_reached : ℕ → Bool → Option ℕ → Bool
+unfoldable pub fin_is_reached : (next : ℕ) (live : Bool) (number : Option ℕ) → Bool
 fin_is_reached next live None = false
-fin_is_reached next live (Some n) = live && not (is_to_come next n)
+fin_is_reached next live (Some number) = live && not (is_to_come next number)
 
 -- the live stream closes, if there is one, and the flow is no longer in step
-unfoldable pub closed : Flow → CloseCause → Flow
-closed f cause = cond (lives f.live f.waits) (stopped f f.next cause) (out_of_step f)
+unfoldable pub closed : (flow : Flow) (cause : CloseCause) → Flow
+closed f cause = cond (lives f.live f.waits) (stream_closed f f.next cause) (out_of_step f)
 
 -- a FIN is kept only while the flow is in step
-unfoldable pub without_stale_fin : Flow → Flow
+unfoldable pub without_stale_fin : (flow : Flow) → Flow
 without_stale_fin f = cond (is_some f.live) f (record f { fin = None })
 
 -- if the FIN is reached, the stream closes or is no longer waited for, and the held payloads that
 -- are due are taken
-unfoldable pub ended : Reader → Flow → Flow
-ended F f =
+unfoldable pub closed_at_fin : (reader : Reader) (flow : Flow) → Flow
+closed_at_fin F f =
     cond (fin_is_reached f.next (is_some f.live) f.fin)
-    (drained F (record (closed f Fin) { fin = None })) f
+    (drained_due F (record (closed f Fin) { fin = None })) f
 
 -- the flow goes on: held payloads that are due are taken, and the stream closes if its FIN is
 -- reached
-unfoldable pub gone_on : Reader → Flow → Flow
-gone_on F f = without_stale_fin (ended F (drained F f))
+unfoldable pub gone_on_with_held : (reader : Reader) (flow : Flow) → Flow
+gone_on_with_held F f = without_stale_fin (closed_at_fin F (drained_due F f))
 
 -- how many octets a gap passes over: all that a message lacks, if they are fewer than 2^31 and a
 -- payload at `number` begins no further on than they end
-unfoldable pub passing : ℕ → ℕ → Option ℕ → Option ℕ
-passing next number None = None
-passing next number (Some count) =
+unfoldable pub passable_octets : (next number : ℕ) (count : Option ℕ) → Option ℕ
+passable_octets next number None = None
+passable_octets next number (Some count) =
     cond (nat_lt count (2 ^ 31) && not (is_to_come (onward next count) number)) (Some count) None
 
 -- how many octets the gap of a flow passes over, from the first payload that it holds: the rest of
 -- the message that its live stream is in
-unfoldable pub passed_over : Reader → Flow → Option ℕ
-passed_over F f =
-    cond (lives f.live f.waits) (elim (first_of f) [
+unfoldable pub octets_passed_over : (reader : Reader) (flow : Flow) → Option ℕ
+octets_passed_over F f =
+    cond (lives f.live f.waits) (elim (oldest_held f) [
       | None ↦ None
-      | Some i ↦ passing f.next (at f i).number (F.lacking f.events f.id)
+      | Some i ↦ passable_octets f.next (at f i).number (F.lacking f.events f.id)
     ]) None
 
 -- the live stream closes, and the flow waits for the next one `count` octets after the number that
 -- is due
-abbrev pub awaiting : Flow → ℕ → Flow
-awaiting f count = record (closed f Gap) {
+abbrev pub awaiting_stream : (flow : Flow) (count : ℕ) → Flow
+awaiting_stream f count = record (closed f Gap) {
   next = onward f.next count;
   live = Some (onward f.next count);
   waits = true;
@@ -366,69 +380,71 @@ awaiting f count = record (closed f Gap) {
 
 -- the live stream closes, and the flow waits for the next one at the end of the message, or is no
 -- longer in step
-unfoldable pub parted : Flow → Option ℕ → Flow
-parted f None = closed f Gap
-parted f (Some count) = awaiting f count
+unfoldable pub closed_for_gap : (flow : Flow) (count : Option ℕ) → Flow
+closed_for_gap f None = closed f Gap
+closed_for_gap f (Some count) = awaiting_stream f count
 
-unfoldable pub gap : Reader → Flow → Flow
-gap F f = gone_on F (parted f (passed_over F f))
+unfoldable pub with_gap : (reader : Reader) (flow : Flow) → Flow
+with_gap F f = gone_on_with_held F (closed_for_gap f (octets_passed_over F f))
 
 -- gaps while a payload that the flow holds ends too far after the number that is due, at most
 -- `count`
-unfoldable pub within_window : Reader → ℕ → Flow → Flow
+unfoldable pub within_window : (reader : Reader) (count : ℕ) (flow : Flow) → Flow
 within_window F zero f = f
 within_window F (suc count) f =
-    elim (is_far f.id f.next f.held) [ true ↦ within_window F count (gap F f) | false ↦ f ]
+    elim (holds_beyond_window f.id f.next f.held)
+    [ true ↦ within_window F count (with_gap F f) | false ↦ f ]
 
-unfoldable pub holding : Flow → Payload → Flow
-holding f p = record f { held = put p f.held }
+unfoldable pub with_held : (flow : Flow) (payload : Payload) → Flow
+with_held f p = record f { held = put p f.held }
 
 -- a payload comes
-unfoldable pub payload_came : Reader → Flow → Payload → Flow
+unfoldable pub payload_came : (reader : Reader) (flow : Flow) (payload : Payload) → Flow
 payload_came F f p =
-    let q : Payload = left f.next (is_some f.live) p in
-    cond (nat_eq (length q.octets) 0 || has_as_much f.id q.number (length q.octets) f.held) f
-    (within_window F (length f.held + 1) (gone_on F (holding f q)))
+    let q : Payload = without_old_octets f.next (is_some f.live) p in
+    cond (nat_eq (length q.octets) 0 || holds_as_long f.id q.number (length q.octets) f.held) f
+    (within_window F (length f.held + 1) (gone_on_with_held F (with_held f q)))
 
 -- a FIN comes, with the number after the payload of its segment
-unfoldable pub fin_came : Reader → Flow → ℕ → Flow
-fin_came F f n =
-    cond (is_some f.live && nat_eq (age f.next n) 0) (gone_on F (record f { fin = Some n })) f
+unfoldable pub fin_came : (reader : Reader) (flow : Flow) (number : ℕ) → Flow
+fin_came F f number =
+    cond (is_some f.live && nat_eq (age f.next number) 0)
+    (gone_on_with_held F (record f { fin = Some number })) f
 
 -- a second, in nanoseconds
 abbrev pub second : ℕ
 second = 1000000000
 
 -- how many nanoseconds packet `now` came after packet `since`; None if one of the two has no time
-abbrev pub waited : origin.Arrival → origin.Arrival → Option ℕ
-waited since now =
+abbrev pub nanoseconds_since : (since now : origin.Arrival) → Option ℕ
+nanoseconds_since since now =
     elim since.time [ None ↦ None | Some before ↦ option_map (λ time. time - before) now.time ]
 
 -- whether a packet acknowledges octets after the number that is due
-abbrev pub acknowledges : Heard → ℕ → Bool
+abbrev pub acknowledges : (packet : Heard) (next : ℕ) → Bool
 acknowledges h next = elim h.acknowledged [ None ↦ false | Some number ↦ is_to_come next number ]
 
 -- Whether, after a packet, the octets are given up that are missing before a payload that came in
 -- packet `since`. If they are acknowledged, they were received: they are given up when the other
 -- side sends octets, or after a second. All others are given up after 30 seconds. If a time isn't
 -- known, it is as if a second had passed.
-abbrev pub gives_up : Heard → ℕ → origin.Arrival → Bool
+abbrev pub gives_up : (packet : Heard) (next : ℕ) (since : origin.Arrival) → Bool
 gives_up h next since =
-    elim (waited since h.arrival) [
+    elim (nanoseconds_since since h.arrival) [
       | None ↦ acknowledges h next
       | Some time ↦
           (acknowledges h next && (h.answers || nat_le second time)) || nat_le (30 * second) time
     ]
 
 -- whether what is missing before the first payload that a flow holds is given up
-unfoldable pub is_lost : Heard → Flow → Bool
-is_lost h f = elim (first_of f) [ None ↦ false | Some i ↦ gives_up h f.next (at f i).arrival ]
+unfoldable pub is_lost : (packet : Heard) (flow : Flow) → Bool
+is_lost h f = elim (oldest_held f) [ None ↦ false | Some i ↦ gives_up h f.next (at f i).arrival ]
 
 -- a packet of the flow's connection came: gaps while what is missing is given up, at most `count`
-unfoldable pub heard : Reader → ℕ → Heard → Flow → Flow
+unfoldable pub heard : (reader : Reader) (count : ℕ) (packet : Heard) (flow : Flow) → Flow
 heard F zero h f = f
 heard F (suc count) h f =
-    elim (is_lost h f) [ true ↦ heard F count h (gap F f) | false ↦ f ]
+    elim (is_lost h f) [ true ↦ heard F count h (with_gap F f) | false ↦ f ]
 
 -- what comes for a flow
 pub data Arrival : Type 0 where
@@ -436,25 +452,25 @@ pub data Arrival : Type 0 where
   End : ℕ → Arrival
   Hears : Heard → Arrival
 
-unfoldable pub step : Reader → Flow → Arrival → Flow
+unfoldable pub step : (reader : Reader) (flow : Flow) (arrival : Arrival) → Flow
 step F f (Octets n octets arrival) = payload_came F f (payload f.id n octets arrival)
 step F f (End n) = fin_came F f n
 step F f (Hears h) = heard F (length f.held) h f
 
 -- the flow after all that comes, in this order
-unfoldable pub after : Reader → Flow → List Arrival → Flow
+unfoldable pub after : (reader : Reader) (flow : Flow) (arrivals : List Arrival) → Flow
 after F f [] = f
 after F f (c ∷ cs) = after F (step F f c) cs
 
 -- a flow for which nothing has come, and the number that is due in it
-abbrev pub fresh : ℕ → ℕ → List Payload → List Event → Flow
-fresh id n held events = record {
+abbrev pub fresh : (id number : ℕ) (held : List Payload) (events : List Event) → Flow
+fresh id number held events = record {
   id = id;
-  next = n;
+  next = number;
   live = None;
   waits = false;
   fin = None;
-  since = n;
+  since = number;
   has_begun = false;
   is_found = false;
   tail = None;
@@ -463,17 +479,17 @@ fresh id n held events = record {
 }
 
 -- a flow for which its first payload has come: the number of this payload was due
-unfoldable pub first_payload : Reader → ℕ → ℕ → List ℕ → origin.Arrival → List Payload →
-    List Event → Flow
-first_payload F id n octets arrival held events =
-    payload_came F (fresh id n held events) (payload id n octets arrival)
+unfoldable pub first_payload : (reader : Reader) (id number : ℕ) (octets : List ℕ)
+    (arrival : origin.Arrival) (held : List Payload) (events : List Event) → Flow
+first_payload F id number octets arrival held events =
+    payload_came F (fresh id number held events) (payload id number octets arrival)
 
 -- the payloads that other flows hold
-unfoldable pub held_by_others : ℕ → List Payload → List Payload
+unfoldable pub held_by_others : (id : ℕ) (payloads : List Payload) → List Payload
 held_by_others id [] = []
 held_by_others id (p ∷ ps) =
     cond (nat_eq p.flow id) (held_by_others id ps) (p ∷ held_by_others id ps)
 
 -- all payloads that the flow holds are removed
-unfoldable pub forgotten : Flow → Flow
-forgotten f = record f { held = held_by_others f.id f.held }
+unfoldable pub without_held : (flow : Flow) → Flow
+without_held f = record f { held = held_by_others f.id f.held }

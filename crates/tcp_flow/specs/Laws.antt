@@ -3,7 +3,7 @@ use Rattle.std.specs.Prelude.{◌≡◌, ◌⊎◌, ℕ, ◌+◌, ◌<◌, ◌�
 use Rattle.tcp_waiting.specs.Numbers.{onward, rank}
 use Rattle.tcp_waiting.specs.Payload.{Payload, no_payload}
 use Rattle.tcp_flow.specs.declared.tail.Tail.{Tail}
-use Rattle.tcp_flow.specs.Flow.{Flow, Event, Opens, Begins, Delivers, Closes, flow_of, first_of, lives, parts_of}
+use Rattle.tcp_flow.specs.Flow.{Flow, Event, Opens, Begins, Delivers, Closes, flow_of, oldest_held, lives, parts_of}
 
 -- from a number on, octets are those that a payload of the flow has from there up to its end
 pub record IsPartOf (payloads : List Payload) (id number : ℕ) (octets : List ℕ) : Type 0 where
@@ -15,67 +15,73 @@ pub record IsPartOf (payloads : List Payload) (id number : ℕ) (octets : List �
   pub octets_are : octets ≡ drop skipped (get_or payloads index no_payload).octets
 
 -- an event of the flow, and the number that is due in the live stream before and after it
-unfoldable pub OwnMayFollow : List Payload → ℕ → Option ℕ → Event → Option ℕ → Type 0
-OwnMayFollow payloads id None (Opens flow endpoints) None = Unit {0}
-OwnMayFollow payloads id None (Begins flow start) (Some due) = start.number ≡ due
-OwnMayFollow payloads id (Some due) (Delivers flow octets) (Some next) =
+unfoldable pub OwnEventMayFollow : (payloads : List Payload) (id : ℕ) (before : Option ℕ)
+    (event : Event)
+    (behind : Option ℕ) → Type 0
+OwnEventMayFollow payloads id None (Opens flow endpoints) None = Unit {0}
+OwnEventMayFollow payloads id None (Begins flow start) (Some due) = start.number ≡ due
+OwnEventMayFollow payloads id (Some due) (Delivers flow octets) (Some next) =
     IsPartOf payloads id due octets × (next ≡ onward due (length octets))
-OwnMayFollow payloads id (Some due) (Closes flow cause) None = Unit {0}
-OwnMayFollow payloads id before event behind = ⊥
+OwnEventMayFollow payloads id (Some due) (Closes flow cause) None = Unit {0}
+OwnEventMayFollow payloads id before event behind = ⊥
 
 -- an event: those of other flows and of the capture leave the number that is due
-abbrev pub MayFollow : List Payload → ℕ → Option ℕ → Event → Option ℕ → Type 0
-MayFollow payloads id before event behind =
-    ((flow_of event ≡ Some id) × OwnMayFollow payloads id before event behind)
+abbrev pub EventMayFollow : (payloads : List Payload) (id : ℕ) (before : Option ℕ) (event : Event)
+    (behind : Option ℕ) → Type 0
+EventMayFollow payloads id before event behind =
+    ((flow_of event ≡ Some id) × OwnEventMayFollow payloads id before event behind)
     ⊎ ((flow_of event ≡ Some id → ⊥) × (before ≡ behind))
 
 -- all events, one after another
-unfoldable pub AllFollow : List Payload → ℕ → Option ℕ → List Event → Option ℕ → Type 0
-AllFollow payloads id before [] behind = before ≡ behind
-AllFollow payloads id before (h ∷ hs) behind =
+unfoldable pub EventsMayFollow : (payloads : List Payload) (id : ℕ) (before : Option ℕ)
+    (events : List Event) (behind : Option ℕ) → Type 0
+EventsMayFollow payloads id before [] behind = before ≡ behind
+EventsMayFollow payloads id before (h ∷ hs) behind =
     (due : Option ℕ)
-    × (MayFollow payloads id before h due × AllFollow payloads id due hs behind)
+    × (EventMayFollow payloads id before h due × EventsMayFollow payloads id due hs behind)
 
-unfoldable pub AllArePartsOf : List Payload → List Payload → Type 0
+unfoldable pub AllArePartsOf : (payloads parts : List Payload) → Type 0
 AllArePartsOf payloads [] = Unit {0}
 AllArePartsOf payloads (p ∷ ps) =
     IsPartOf payloads p.flow p.number p.octets × AllArePartsOf payloads ps
 
 -- the number that is due, if a stream is live
-abbrev pub due_of : Flow → Option ℕ
+abbrev pub due_of : (flow : Flow) → Option ℕ
 due_of f = cond (lives f.live f.waits) (Some f.next) None
 
--- octets follow one another from a number on, and P is true of each part at its own number
-unfoldable pub StandFrom : (ℕ → List ℕ → Type 0) → ℕ → List (List ℕ) → Type 0
-StandFrom P n [] = Unit {0}
-StandFrom P n (xs ∷ xss) = P n xs × StandFrom P (onward n (length xs)) xss
+-- octets follow one another from a number on, and `Holds` is true of each part at its own number
+unfoldable pub StandFrom : (Holds : ℕ → List ℕ → Type 0) (number : ℕ) (parts : List (List ℕ)) →
+    Type 0
+StandFrom Holds number [] = Unit {0}
+StandFrom Holds number (xs ∷ xss) =
+    Holds number xs × StandFrom Holds (onward number (length xs)) xss
 
-unfoldable pub total : List ℕ → ℕ
+unfoldable pub total : (sizes : List ℕ) → ℕ
 total [] = 0
 total (n ∷ ns) = n + total ns
 
--- a tail: P is true of the octets of each of its payloads, which have five together at most
-pub record IsTailOf (P : ℕ → List ℕ → Type 0) (t : Tail) : Type 0 where
-  pub number : t.number < 2 ^ 32
-  pub most : t.octets ≤ 5
-  pub room : length t.parts ≡ 5
-  pub all : total (take t.count t.parts) ≡ t.octets
-  pub stand : StandFrom P t.number (parts_of t)
+-- a tail: `Holds` is true of the octets of each of its payloads, which have five together at most
+pub record IsTailOf (Holds : ℕ → List ℕ → Type 0) (tail : Tail) : Type 0 where
+  pub number : tail.number < 2 ^ 32
+  pub most : tail.octets ≤ 5
+  pub room : length tail.parts ≡ 5
+  pub all : total (take tail.count tail.parts) ≡ tail.octets
+  pub stand : StandFrom Holds tail.number (parts_of tail)
 
 -- the streams of a flow have no gaps, and what is held and the tail are parts of payloads
-pub record IsGapless (payloads : List Payload) (f : Flow) : Type 0 where
-  pub next : f.next < 2 ^ 32
-  pub held : AllArePartsOf payloads f.held
-  pub tail : (t : Tail) → f.tail ≡ Some t → IsTailOf (IsPartOf payloads f.id) t
-  pub events : AllFollow payloads f.id None f.events (due_of f)
+pub record IsGapless (payloads : List Payload) (flow : Flow) : Type 0 where
+  pub next : flow.next < 2 ^ 32
+  pub held : AllArePartsOf payloads flow.held
+  pub tail : (t : Tail) → flow.tail ≡ Some t → IsTailOf (IsPartOf payloads flow.id) t
+  pub events : EventsMayFollow payloads flow.id None flow.events (due_of flow)
 
 -- each payload that a flow holds has a rank greater than `least`
-unfoldable pub AreLater : ℕ → ℕ → ℕ → List Payload → Type 0
+unfoldable pub AreLater : (id next least : ℕ) (payloads : List Payload) → Type 0
 AreLater id next least [] = Unit {0}
 AreLater id next least (p ∷ ps) =
     (p.flow ≡ id → least < rank next p.number) × AreLater id next least ps
 
 -- all payloads that a flow holds are to come, and it holds none if it isn't in step
-pub record IsSettled (f : Flow) : Type 0 where
-  pub live : (is_some f.live) ≡ true → AreLater f.id f.next (2 ^ 31) f.held
-  pub dead : (is_some f.live) ≡ false → is_some (first_of f) ≡ false
+pub record HoldsOnlyToCome (flow : Flow) : Type 0 where
+  pub live : (is_some flow.live) ≡ true → AreLater flow.id flow.next (2 ^ 31) flow.held
+  pub dead : (is_some flow.live) ≡ false → is_some (oldest_held flow) ≡ false

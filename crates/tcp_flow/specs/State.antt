@@ -4,7 +4,7 @@ use Rattle.tcp_flow.specs.declared.flow.FlowState.{FlowState}
 use Rattle.tcp_waiting.specs.Payload.{Payload}
 use Rattle.tcp_flow.specs.Flow.{Flow, Event}
 
-abbrev pub state : FlowState → List Payload → List Event → Flow
+abbrev pub state : (flow : FlowState) (held : List Payload) (events : List Event) → Flow
 state s held events = record {
   id = s.id;
   next = s.next;
@@ -21,7 +21,8 @@ state s held events = record {
 
 -- the code has this flow: what is held is what the flow holds, and the listener has observed all
 -- that has happened
-pub record IsState (O : List Event → Type 0) (s : FlowState) (held : List Payload) (f : Flow)
+pub record IsState (Observed : List Event → Type 0) (kept : FlowState) (held : List Payload)
+    (f : Flow)
     : Type 0 where
-  pub observed : O f.events
-  pub same : state s held f.events ≡ f
+  pub observed : Observed f.events
+  pub same : state kept held f.events ≡ f

@@ -8,11 +8,11 @@ use tcp_waiting::{Arrival, Pool, age, is_to_come};
 impl FlowState {
     ghost use Rattle.std.specs.Prelude.{◌&&◌, is_some, not, false};
     ghost use Rattle.tcp_waiting.specs.Numbers.{is_to_come as spec_is_to_come};
-    ghost use Rattle.tcp_waiting.specs.Payload.{Payload, payload, blocks_of, first};
+    ghost use Rattle.tcp_waiting.specs.Payload.{Payload, payload, blocks_of, oldest_index};
     ghost use Rattle.tcp_flow.specs.Flow.{Flow, Event, End, Octets};
     ghost use Rattle.tcp_flow.specs.Flow.{fin_came, payload_came};
     ghost use Rattle.tcp_flow.specs.Flow.{first_payload, fresh, held_by_others, step};
-    ghost use Rattle.tcp_flow.specs.Laws.{IsGapless, IsSettled};
+    ghost use Rattle.tcp_flow.specs.Laws.{IsGapless, HoldsOnlyToCome};
     ghost use Rattle.tcp_flow.specs.State.{state, IsState};
 
     /// Begins a flow with its first payload, whose number is due.
@@ -26,7 +26,7 @@ impl FlowState {
     ) -> Result<FlowState, ListenerError>
         requires whole { length octets.now ≤ 262_144 }
         requires room { blocks_of pool.old.held ≤ pool.old.blocks }
-        requires none { is_some (first id number pool.old.held) ≡ false }
+        requires none { is_some (oldest_index id number pool.old.held) ≡ false }
         ensures does { (events : List Event) → T.observed to.old events → IfOk result (λ flow.
             IsState (T.observed to.new) flow pool.new.held
             (first_payload T.reader id number octets.now arrival
@@ -41,18 +41,19 @@ impl FlowState {
         ensures room { (events : List Event) → T.observed to.old events
             → OnOk result (blocks_of pool.new.held ≤ pool.new.blocks) }
         ensures settled { (events : List Event) → T.observed to.old events
-            → IfOk result (λ flow. IsSettled (state flow pool.new.held [])) }
+            → IfOk result (λ flow. HoldsOnlyToCome (state flow pool.new.held [])) }
         ensures id { IfOk result (λ flow. flow.id ≡ id) }
         ensures blocks { pool.new.blocks ≡ pool.old.blocks }
         ensures cause { OnErr result (T.failed to.new) }
     {
         let mut flow = FlowState::new(id, number);
-        flow.payload(number, octets, arrival, pool, to)?;
+        flow.payload_came(number, octets, arrival, pool, to)?;
         Ok(flow)
     }
 
     /// Takes a payload of the flow.
-    pub fn payload<T: Listener>(
+    #[inline(always)]
+    pub fn payload_came<T: Listener>(
         &mut self,
         number: u32,
         octets: &[u8],
@@ -62,7 +63,7 @@ impl FlowState {
     ) -> Result<(), ListenerError>
         requires whole { length octets.now ≤ 262_144 }
         requires room { blocks_of pool.old.held ≤ pool.old.blocks }
-        requires settled { IsSettled (state self.old pool.old.held []) }
+        requires settled { HoldsOnlyToCome (state self.old pool.old.held []) }
         ensures does { (f : Flow) → IsState (T.observed to.old) self.old pool.old.held f
             → OnOk result (IsState (T.observed to.new) self.new pool.new.held
             (step T.reader f (Octets number octets.now arrival))) }
@@ -77,7 +78,7 @@ impl FlowState {
         ensures room { (f : Flow) → IsState (T.observed to.old) self.old pool.old.held f
             → OnOk result (blocks_of pool.new.held ≤ pool.new.blocks + 256) }
         ensures settled { (f : Flow) → IsState (T.observed to.old) self.old pool.old.held f
-            → OnOk result (IsSettled (state self.new pool.new.held [])) }
+            → OnOk result (HoldsOnlyToCome (state self.new pool.new.held [])) }
         ensures id { self.new.id ≡ self.old.id }
         ensures blocks { pool.new.blocks ≡ pool.old.blocks }
         ensures cause { OnErr result (T.failed to.new) }
@@ -89,7 +90,7 @@ impl FlowState {
     }
 
     /// Takes a FIN of the flow. Its number is that after the payload of its segment.
-    pub fn fin<T: Listener>(
+    pub fn fin_came<T: Listener>(
         &mut self,
         number: u32,
         pool: &mut Pool,
@@ -108,8 +109,8 @@ impl FlowState {
         ensures room { (f : Flow) → IsState (T.observed to.old) self.old pool.old.held f
             → OnOk result (blocks_of pool.new.held ≤ blocks_of pool.old.held) }
         ensures settled { (f : Flow) → IsState (T.observed to.old) self.old pool.old.held f
-            → IsSettled (state self.old pool.old.held [])
-            → OnOk result (IsSettled (state self.new pool.new.held [])) }
+            → HoldsOnlyToCome (state self.old pool.old.held [])
+            → OnOk result (HoldsOnlyToCome (state self.new pool.new.held [])) }
         ensures id { self.new.id ≡ self.old.id }
         ensures blocks { pool.new.blocks ≡ pool.old.blocks }
         ensures cause { OnErr result (T.failed to.new) }
@@ -121,6 +122,7 @@ impl FlowState {
     }
 
     /// Takes a payload, and closes gaps afterwards if the flow holds too much.
+    #[inline(always)]
     fn take_payload<T: Listener>(
         &mut self,
         number: u32,
@@ -131,7 +133,7 @@ impl FlowState {
     ) -> Result<(), ListenerError>
         requires whole { length octets.now ≤ 262_144 }
         requires room { blocks_of pool.old.held ≤ pool.old.blocks }
-        requires settled { IsSettled (state self.old pool.old.held []) }
+        requires settled { HoldsOnlyToCome (state self.old pool.old.held []) }
         ensures does { (f : Flow) → IsState (T.observed to.old) self.old pool.old.held f
             → OnOk result (IsState (T.observed to.new) self.new pool.new.held
             (payload_came T.reader f (payload self.old.id number octets.now arrival))) }
@@ -139,7 +141,7 @@ impl FlowState {
         ensures blocks { pool.new.blocks ≡ pool.old.blocks }
         ensures cause { OnErr result (T.failed to.new) }
     {
-        let (number, octets) = self.left(number, octets);
+        let (number, octets) = self.without_old_octets(number, octets);
         if octets.is_empty() {
             return Ok(());
         }
@@ -149,16 +151,16 @@ impl FlowState {
             if self.keeps_nothing(pool) {
                 return Ok(());
             }
-            self.go_on(pool, to)?;
+            self.go_on_with_held(pool, to)?;
             return self.keep_within_window(count, pool, to);
         }
-        if pool.has_as_much(self.id, number, octets.len()) {
+        if pool.holds_as_long(self.id, number, octets.len()) {
             return Ok(());
         }
         let count = pool.len() + 1;
         pool.hold(self.id, self.next, number, octets, arrival);
         // All held payloads are to come, so nothing is looked for.
-        self.end_at_fin(pool, to)?;
+        self.go_on_with_none_due(pool, to)?;
         self.keep_within_window(count, pool, to)
     }
 
@@ -173,10 +175,10 @@ impl FlowState {
     /// with.
     #[inline]
     fn keeps_nothing(&self, pool: &Pool) -> bool
-        ensures { result ≡ (not (is_some (first self.now.id self.now.next pool.now.held))
+        ensures { result ≡ (not (is_some (oldest_index self.now.id self.now.next pool.now.held))
             && not (is_some self.now.fin)) }
     {
-        !self.holds(pool) && !self.has_fin()
+        !self.holds_payload(pool) && !self.has_fin()
     }
 
     /// Takes a FIN. Its number is that after the payload of its segment.
@@ -195,7 +197,7 @@ impl FlowState {
     {
         if self.is_in_step() && age(self.next, number) == 0 {
             self.fin = Some(number);
-            return self.go_on(pool, to);
+            return self.go_on_with_held(pool, to);
         }
         Ok(())
     }

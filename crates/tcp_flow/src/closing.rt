@@ -7,7 +7,7 @@ use tcp_waiting::{Pool, is_to_come};
 
 impl FlowState {
     ghost use Rattle.tcp_waiting.specs.Payload.{Payload};
-    ghost use Rattle.tcp_flow.specs.Flow.{Flow, Event, closed, ended, gone_on};
+    ghost use Rattle.tcp_flow.specs.Flow.{Flow, Event, closed, closed_at_fin, gone_on_with_held};
     ghost use Rattle.tcp_flow.specs.Flow.{fin_is_reached as spec_fin_is_reached};
     ghost use Rattle.tcp_flow.specs.Flow.{without_stale_fin as spec_without_stale_fin};
     ghost use Rattle.tcp_flow.specs.Laws.{IsGapless};
@@ -35,45 +35,50 @@ impl FlowState {
     }
 
     /// Goes on: takes the held payloads that are due, and closes the stream if its FIN is reached.
-    pub(crate) fn go_on<T: Listener>(
+    pub(crate) fn go_on_with_held<T: Listener>(
         &mut self,
         pool: &mut Pool,
         to: &mut T,
     ) -> Result<(), ListenerError>
         ensures does { (f : Flow) → IsState (T.observed to.old) self.old pool.old.held f
             → OnOk result (IsState (T.observed to.new) self.new pool.new.held
-            (gone_on T.reader f)) }
+            (gone_on_with_held T.reader f)) }
         ensures id { self.new.id ≡ self.old.id }
         ensures blocks { pool.new.blocks ≡ pool.old.blocks }
         ensures cause { OnErr result (T.failed to.new) }
     {
-        self.drain(pool, to)?;
-        self.end_at_fin(pool, to)
+        self.drain_due(pool, to)?;
+        self.go_on_with_none_due(pool, to)
     }
 
     /// Goes on if no held payload is due: closes the stream if its FIN is reached.
-    pub(crate) fn end_at_fin<T: Listener>(
+    pub(crate) fn go_on_with_none_due<T: Listener>(
         &mut self,
         pool: &mut Pool,
         to: &mut T,
     ) -> Result<(), ListenerError>
         ensures does { (f : Flow) → IsState (T.observed to.old) self.old pool.old.held f
             → OnOk result (IsState (T.observed to.new) self.new pool.new.held
-            (spec_without_stale_fin (ended T.reader f))) }
+            (spec_without_stale_fin (closed_at_fin T.reader f))) }
         ensures id { self.new.id ≡ self.old.id }
         ensures blocks { pool.new.blocks ≡ pool.old.blocks }
         ensures cause { OnErr result (T.failed to.new) }
     {
-        self.end(pool, to)?;
+        self.close_at_fin(pool, to)?;
         self.drop_stale_fin();
         Ok(())
     }
 
     /// If the FIN is reached, closes the stream or no longer waits for it, and takes the held
     /// payloads that are due.
-    fn end<T: Listener>(&mut self, pool: &mut Pool, to: &mut T) -> Result<(), ListenerError>
+    fn close_at_fin<T: Listener>(
+        &mut self,
+        pool: &mut Pool,
+        to: &mut T,
+    ) -> Result<(), ListenerError>
         ensures does { (f : Flow) → IsState (T.observed to.old) self.old pool.old.held f
-            → OnOk result (IsState (T.observed to.new) self.new pool.new.held (ended T.reader f)) }
+            → OnOk result (IsState (T.observed to.new) self.new pool.new.held
+            (closed_at_fin T.reader f)) }
         ensures id { self.new.id ≡ self.old.id }
         ensures blocks { pool.new.blocks ≡ pool.old.blocks }
         ensures cause { OnErr result (T.failed to.new) }
@@ -81,7 +86,7 @@ impl FlowState {
         if self.fin_is_reached() {
             self.close(CloseCause::Fin, to)?;
             self.fin = None;
-            return self.drain(pool, to);
+            return self.drain_due(pool, to);
         }
         Ok(())
     }

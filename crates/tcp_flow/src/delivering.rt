@@ -3,25 +3,25 @@
 ghost use Rattle.std.specs.Prelude.{◌≡◌, ◌≤◌, [], List, OnOk, OnErr, is_some, length, true};
 
 use crate::flow::{CloseCause, FlowState, Listener, ListenerError, Start};
-use crate::looking::{is_beginning, stream_at};
+use crate::looking::{is_header_beginning, stream_begin_in};
 use crate::tail::{FIRST_FIVE, Tail};
 use tcp_waiting::{Arrival, Pool, WINDOW, age, ahead, is_to_come, onward};
 
 impl FlowState {
     ghost use Rattle.tcp_waiting.specs.Payload.{Payload, payload};
-    ghost use Rattle.tcp_flow.specs.Flow.{Flow, left, delivered, taken, drained};
-    ghost use Rattle.tcp_flow.specs.Flow.{all_delivered, cut_up, goes_on, looked_through, rejoined, resumed, started};
-    ghost use Rattle.tcp_flow.specs.Flow.{start_at as spec_start_at, tail_before};
-    ghost use Rattle.tcp_flow.specs.Flow.{Event, number_after as spec_number_after};
+    ghost use Rattle.tcp_flow.specs.Flow.{Flow, without_old_octets, delivered, taken, drained_due};
+    ghost use Rattle.tcp_flow.specs.Flow.{all_delivered, cut_up, is_continued_by, looked_through, joined_to_tail, begun_if_awaited, started};
+    ghost use Rattle.tcp_flow.specs.Flow.{start_at as spec_start_at, tail_continued_by};
+    ghost use Rattle.tcp_flow.specs.Flow.{Event, number_after_octet as spec_number_after_octet};
     ghost use Rattle.tcp_flow.specs.State.{state, IsState};
 
     /// What is left of a payload without the octets before the number that is due. If the flow
     /// isn't in step and the payload begins more than `WINDOW` before that number, all of it is
     /// left.
-    pub(crate) fn left<'a>(&self, number: u32, octets: &'a [u8]) -> (u32, &'a [u8])
+    pub(crate) fn without_old_octets<'a>(&self, number: u32, octets: &'a [u8]) -> (u32, &'a [u8])
         ensures shorter { length result.1.now ≤ length octets.now }
         ensures left { (arrival : Arrival) → payload self.now.id result.0 result.1.now arrival
-            ≡ left self.now.next (is_some self.now.live)
+            ≡ without_old_octets self.now.next (is_some self.now.live)
             (payload self.now.id number octets.now arrival) }
     {
         let age = age(self.next, number);
@@ -33,6 +33,7 @@ impl FlowState {
     }
 
     /// Delivers octets to the live stream, and closes it if its reader is then at a fault.
+    #[inline]
     fn deliver<T: Listener>(
         &mut self,
         number: u32,
@@ -48,7 +49,7 @@ impl FlowState {
     {
         self.next = onward(number, octets.len());
         if let Some(at) = to.on_octets(self.id, octets)? {
-            self.since = self.number_after(at);
+            self.since = self.number_after_octet(at);
             self.live = None;
             self.waits = false;
             to.on_close(self.id, CloseCause::Fault)?;
@@ -57,8 +58,8 @@ impl FlowState {
     }
 
     /// The number after an octet of the live stream. The octet is counted from 1.
-    fn number_after(&self, at: u64) -> u32
-        ensures { result ≡ spec_number_after (state self.now [] []) at }
+    fn number_after_octet(&self, at: u64) -> u32
+        ensures { result ≡ spec_number_after_octet (state self.now [] []) at }
     {
         onward(self.live.unwrap_or(self.next), at as usize)
     }
@@ -76,7 +77,7 @@ impl FlowState {
     }
 
     /// Begins a stream at a number. This number is then due.
-    fn start<T: Listener>(&mut self, number: u32, to: &mut T) -> Result<(), ListenerError>
+    fn begin_stream<T: Listener>(&mut self, number: u32, to: &mut T) -> Result<(), ListenerError>
         ensures id { self.new.id ≡ self.old.id }
         ensures does { (held : List Payload) (f : Flow)
             → IsState (T.observed to.old) self.old held f → OnOk result
@@ -95,15 +96,15 @@ impl FlowState {
     }
 
     /// Begins the stream that the flow waits for, if it waits for one, at the number that is due.
-    fn resume<T: Listener>(&mut self, to: &mut T) -> Result<(), ListenerError>
+    fn begin_if_awaited<T: Listener>(&mut self, to: &mut T) -> Result<(), ListenerError>
         ensures id { self.new.id ≡ self.old.id }
         ensures does { (held : List Payload) (f : Flow)
             → IsState (T.observed to.old) self.old held f → OnOk result
-            (IsState (T.observed to.new) self.new held (resumed f)) }
+            (IsState (T.observed to.new) self.new held (begun_if_awaited f)) }
         ensures cause { OnErr result (T.failed to.new) }
     {
         if self.waits {
-            return self.start(self.next, to);
+            return self.begin_stream(self.next, to);
         }
         Ok(())
     }
@@ -131,11 +132,11 @@ impl FlowState {
     }
 
     /// The tail, if octets at this number go on from it.
-    fn tail_before(&self, number: u32, octets: &[u8]) -> Option<Tail>
-        ensures { result ≡ tail_before self.now.tail number octets.now }
+    fn tail_continued_by(&self, number: u32, octets: &[u8]) -> Option<Tail>
+        ensures { result ≡ tail_continued_by self.now.tail number octets.now }
     {
         let tail = self.tail?;
-        if tail.goes_on(number, octets) {
+        if tail.is_continued_by(number, octets) {
             return Some(tail);
         }
         None
@@ -143,28 +144,28 @@ impl FlowState {
 
     /// Takes a payload that goes on from the tail. If both together have fewer than six octets,
     /// they are the new tail. If not, a stream begins where the tail does.
-    fn rejoin<T: Listener>(
+    fn join_to_tail<T: Listener>(
         &mut self,
         number: u32,
         octets: &[u8],
         tail: Tail,
         to: &mut T,
     ) -> Result<(), ListenerError>
-        requires { goes_on tail number octets.now ≡ true }
+        requires { is_continued_by tail number octets.now ≡ true }
         ensures id { self.new.id ≡ self.old.id }
         ensures does { (held : List Payload) (f : Flow) (arrival : Arrival)
             → IsState (T.observed to.old) self.old held f → OnOk result
             (IsState (T.observed to.new) self.new held
-            (rejoined T.reader f (payload self.old.id number octets.now arrival) tail)) }
+            (joined_to_tail T.reader f (payload self.old.id number octets.now arrival) tail)) }
         ensures cause { OnErr result (T.failed to.new) }
     {
         let count = tail.octets as usize + octets.len();
         if count < 6 {
-            to.on_pass(&FIRST_FIVE[..count]);
+            to.on_looked_through(&FIRST_FIVE[..count]);
             self.tail = Some(tail.lengthened(octets.len() as u8));
             return Ok(());
         }
-        self.start(tail.number, to)?;
+        self.begin_stream(tail.number, to)?;
         self.deliver_parts(&FIRST_FIVE, tail.parts(), to)?;
         if self.is_live() {
             return self.deliver(self.next, octets, to);
@@ -185,19 +186,19 @@ impl FlowState {
             → IsState (T.observed to.old) self.old held f → OnOk result
             (IsState (T.observed to.new) self.new held
             (looked_through T.reader f (payload self.old.id number octets.now arrival)
-            (tail_before f.tail number octets.now))) }
+            (tail_continued_by f.tail number octets.now))) }
         ensures cause { OnErr result (T.failed to.new) }
     {
-        if let Some(tail) = self.tail_before(number, octets) {
-            return self.rejoin(number, octets, tail, to);
+        if let Some(tail) = self.tail_continued_by(number, octets) {
+            return self.join_to_tail(number, octets, tail, to);
         }
-        if let Some(at) = stream_at(octets) {
+        if let Some(at) = stream_begin_in(octets) {
             let number = onward(number, at);
-            self.start(number, to)?;
+            self.begin_stream(number, to)?;
             return self.deliver(number, &octets[at..], to);
         }
-        to.on_pass(octets);
-        if is_beginning(octets) {
+        to.on_looked_through(octets);
+        if is_header_beginning(octets) {
             self.tail = Some(Tail::new(number, octets.len() as u8));
         }
         Ok(())
@@ -220,32 +221,32 @@ impl FlowState {
             (taken T.reader f (payload self.old.id number octets.now arrival))) }
         ensures cause { OnErr result (T.failed to.new) }
     {
-        let (number, octets) = self.left(number, octets);
+        let (number, octets) = self.without_old_octets(number, octets);
         if octets.is_empty() {
             return Ok(());
         }
         to.on_arrival(arrival);
         if self.is_in_step() {
-            self.resume(to)?;
+            self.begin_if_awaited(to)?;
             return self.deliver(number, octets, to);
         }
         self.look_through(number, octets, to)
     }
 
     /// Takes the first held payload while it is due.
-    pub(crate) fn drain<T: Listener>(
+    pub(crate) fn drain_due<T: Listener>(
         &mut self,
         pool: &mut Pool,
         to: &mut T,
     ) -> Result<(), ListenerError>
         ensures does { (f : Flow) → IsState (T.observed to.old) self.old pool.old.held f
             → OnOk result (IsState (T.observed to.new) self.new pool.new.held
-            (drained T.reader f)) }
+            (drained_due T.reader f)) }
         ensures id { self.new.id ≡ self.old.id }
         ensures blocks { pool.new.blocks ≡ pool.old.blocks }
         ensures cause { OnErr result (T.failed to.new) }
     {
-        let mut first = pool.first(self.id, self.next);
+        let mut first = pool.oldest_index(self.id, self.next);
         while let Some(index) = first {
             let number = pool.number(index);
             if self.is_in_step() && is_to_come(self.next, number) {
@@ -253,7 +254,7 @@ impl FlowState {
             }
             self.take(number, pool.octets(index), pool.arrival(index), to)?;
             pool.remove(index);
-            first = pool.first(self.id, self.next);
+            first = pool.oldest_index(self.id, self.next);
         }
         Ok(())
     }

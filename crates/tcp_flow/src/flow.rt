@@ -3,7 +3,7 @@
 
 ghost use Rattle.std.specs.Prelude.{◌≡◌, ◌<◌, ◌∷◌, ◌++◌, [], List, length};
 ghost use Rattle.std.specs.Prelude.{IfOk, IfSome, OnErr, OnOk};
-ghost use Rattle.tcp_flow.specs.Flow.{is_header as spec_is_header, header_at as spec_header_at};
+ghost use Rattle.tcp_flow.specs.Flow.{is_header as spec_is_header, index_of_header as spec_index_of_header};
 
 use crate::tail::Tail;
 use tcp_segment::Flow as Endpoints;
@@ -66,7 +66,7 @@ pub trait Listener {
 
     /// The id stands for the flow between these endpoints from now on. Nothing has come for that
     /// flow.
-    fn on_open(&mut self, flow: u32, endpoints: Endpoints) -> Result<(), ListenerError>
+    fn on_new_flow(&mut self, flow: u32, endpoints: Endpoints) -> Result<(), ListenerError>
         ensures does { (events : List Event) → observed self.old events
             → OnOk result (observed self.new (events ++ Opens flow endpoints ∷ [])) }
         ensures cause { OnErr result (failed self.new) };
@@ -77,7 +77,7 @@ pub trait Listener {
             → observed self.new (events ++ OfCapture (ComesFrom arrival) ∷ []) };
 
     /// These octets were looked through, and no stream begins in them.
-    fn on_pass(&mut self, octets: &[u8])
+    fn on_looked_through(&mut self, octets: &[u8])
         ensures { (events : List Event) → observed self.old events
             → observed self.new (events ++ OfCapture (Passes octets.now) ∷ []) };
 
@@ -97,7 +97,7 @@ pub trait Listener {
 
     /// How many octets the message lacks that a flow's last stream is in, if its header is
     /// complete; 0 if the stream is in no message.
-    fn lacks(&mut self, flow: u32) -> Result<Option<u32>, ListenerError>
+    fn message_lacks(&mut self, flow: u32) -> Result<Option<u32>, ListenerError>
         ensures does { (events : List Event) → observed self.old events → IfOk result (λ count.
             observed self.new events × (count ≡ reader.lacking events flow)) }
         ensures cause { OnErr result (failed self.new) };
@@ -133,7 +133,7 @@ pub struct FlowState {
 
 impl FlowState {
     ghost use Rattle.std.specs.Prelude.{is_some};
-    ghost use Rattle.tcp_waiting.specs.Payload.{Payload, first};
+    ghost use Rattle.tcp_waiting.specs.Payload.{Payload, oldest_index};
     ghost use Rattle.tcp_flow.specs.Flow.{Event, fresh, is_near, lives};
     ghost use Rattle.tcp_flow.specs.State.{state};
 
@@ -170,7 +170,7 @@ impl FlowState {
     }
 
     /// The sequence number that the stream begins with that is live or waited for.
-    pub fn live(&self) -> Option<u32>
+    pub fn stream_start(&self) -> Option<u32>
         ensures { result ≡ self.now.live }
     {
         self.live
@@ -191,10 +191,10 @@ impl FlowState {
     }
 
     /// Whether the flow holds a payload.
-    pub fn holds(&self, pool: &Pool) -> bool
-        ensures { result ≡ is_some (first self.now.id self.now.next pool.now.held) }
+    pub fn holds_payload(&self, pool: &Pool) -> bool
+        ensures { result ≡ is_some (oldest_index self.now.id self.now.next pool.now.held) }
     {
-        pool.first(self.id, self.next).is_some()
+        pool.len() > 0 && pool.oldest_index(self.id, self.next).is_some()
     }
 }
 
@@ -212,8 +212,8 @@ fn is_header(octets: &[u8]) -> bool
 }
 
 /// The index of the first GIOP header: `GIOP` 01 and 00, 01 or 02.
-pub(crate) fn header_at(octets: &[u8]) -> Option<usize>
-    ensures at { result ≡ spec_header_at octets.now }
+pub(crate) fn index_of_header(octets: &[u8]) -> Option<usize>
+    ensures at { result ≡ spec_index_of_header octets.now }
     ensures within { IfSome result (λ i. i < length octets.now) }
 {
     let mut index = 0;

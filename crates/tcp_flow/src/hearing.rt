@@ -2,7 +2,7 @@
 //! received, or that they are too late.
 
 ghost use Rattle.std.specs.Prelude.{◌≡◌, ◌≤◌, [], List, OnOk, OnErr, length, true, false};
-ghost use Rattle.tcp_flow.specs.Flow.{acknowledges, gives_up, waited};
+ghost use Rattle.tcp_flow.specs.Flow.{acknowledges, gives_up, nanoseconds_since};
 ghost use Rattle.std.specs.List.{AllByRecursion};
 
 use crate::flow::{FlowState, Listener, ListenerError};
@@ -34,8 +34,8 @@ impl Heard {
     }
 
     /// How many nanoseconds after another packet this one came. None if one of the two has no time.
-    fn waited(&self, since: Arrival) -> Option<u128>
-        ensures { result ≡ waited since self.now.arrival }
+    fn nanoseconds_since(&self, since: Arrival) -> Option<u128>
+        ensures { result ≡ nanoseconds_since since self.now.arrival }
     {
         match (since.time, self.arrival.time) {
             (Some(before), Some(time)) => Some(time.saturating_sub(before)),
@@ -45,7 +45,7 @@ impl Heard {
 
     /// Whether it is known that the packet gives up nothing: it acknowledges no octets after the
     /// number that is due, and all that waits came less than 30 seconds before it.
-    fn comes_early(&self, next: u32, pool: &Pool) -> bool
+    fn surely_gives_up_nothing(&self, next: u32, pool: &Pool) -> bool
         ensures { result ≡ true → AllByRecursion
             (λ p. gives_up self.now next p.arrival ≡ false) pool.now.held }
     {
@@ -53,7 +53,7 @@ impl Heard {
             return false;
         }
         match self.arrival.time {
-            Some(time) => pool.are_younger(30 * SECOND, time),
+            Some(time) => pool.surely_younger(30 * SECOND, time),
             None => true,
         }
     }
@@ -66,7 +66,7 @@ impl Heard {
         ensures { result ≡ gives_up self.now next since }
     {
         let received = self.acknowledges(next);
-        match self.waited(since) {
+        match self.nanoseconds_since(since) {
             None => received,
             Some(time) => (received && (self.answers || SECOND <= time)) || 30 * SECOND <= time,
         }
@@ -78,7 +78,7 @@ impl FlowState {
     ghost use Rattle.tcp_waiting.specs.Payload.{Payload, blocks_of};
     ghost use Rattle.tcp_flow.specs.Flow.{Flow, Event, Hears, heard, held_by_others, step};
     ghost use Rattle.tcp_flow.specs.Flow.{is_lost as spec_is_lost};
-    ghost use Rattle.tcp_flow.specs.Laws.{IsGapless, IsSettled};
+    ghost use Rattle.tcp_flow.specs.Laws.{IsGapless, HoldsOnlyToCome};
     ghost use Rattle.tcp_flow.specs.State.{state, IsState};
 
     /// Hears a packet of the flow's connection, and gives up what is missing if the packet says so.
@@ -101,8 +101,8 @@ impl FlowState {
         ensures room { (f : Flow) → IsState (T.observed to.old) self.old pool.old.held f
             → OnOk result (blocks_of pool.new.held ≤ blocks_of pool.old.held) }
         ensures settled { (f : Flow) → IsState (T.observed to.old) self.old pool.old.held f
-            → IsSettled (state self.old pool.old.held [])
-            → OnOk result (IsSettled (state self.new pool.new.held [])) }
+            → HoldsOnlyToCome (state self.old pool.old.held [])
+            → OnOk result (HoldsOnlyToCome (state self.new pool.new.held [])) }
         ensures over { (f : Flow) → IsState (T.observed to.old) self.old pool.old.held f
             → OnOk result (spec_is_lost packet (state self.new pool.new.held f.events) ≡ false) }
         ensures id { self.new.id ≡ self.old.id }
@@ -134,7 +134,7 @@ impl FlowState {
             if !self.is_lost(packet, pool) {
                 return Ok(());
             }
-            self.gap(pool, to)?;
+            self.make_gap(pool, to)?;
             left -= 1;
         }
         Ok(())
@@ -145,10 +145,10 @@ impl FlowState {
         ensures { (events : List Event) → result
             ≡ spec_is_lost packet (state self.now pool.now.held events) }
     {
-        if packet.comes_early(self.next, pool) {
+        if packet.surely_gives_up_nothing(self.next, pool) {
             return false;
         }
-        match pool.first(self.id, self.next) {
+        match pool.oldest_index(self.id, self.next) {
             Some(first) => packet.gives_up(self.next, pool.arrival(first)),
             None => false,
         }

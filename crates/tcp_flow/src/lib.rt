@@ -15,5 +15,5 @@ mod tail;
 pub use flow::{CloseCause, FlowState, Listener, ListenerError, Start};
 pub use hearing::Heard;
 pub use laws::order_makes_no_difference;
-pub use looking::{is_beginning, stream_at};
+pub use looking::{is_header_beginning, stream_begin_in};
 pub use tail::Tail;

@@ -2,12 +2,12 @@
 //! another up to the end.
 
 ghost use Rattle.std.specs.Prelude.{◌≡◌, ◌≤◌, ◌<◌, ◌^◌, ◌++◌, length, get_or, IfSome};
-ghost use Rattle.tcp_flow.specs.Flow.{weighed as spec_weighed, size_in as spec_size_in};
-ghost use Rattle.tcp_flow.specs.Flow.{message_end as spec_message_end, is_front as spec_is_front};
-ghost use Rattle.tcp_flow.specs.Flow.{is_chain as spec_is_chain, stream_at as spec_stream_at};
-ghost use Rattle.tcp_flow.specs.Flow.{is_beginning as spec_is_beginning};
+ghost use Rattle.tcp_flow.specs.Flow.{big_endian_number as spec_big_endian_number, message_size_in as spec_message_size_in};
+ghost use Rattle.tcp_flow.specs.Flow.{message_end as spec_message_end, may_be_header as spec_may_be_header};
+ghost use Rattle.tcp_flow.specs.Flow.{is_chain as spec_is_chain, stream_begin_in as spec_stream_begin_in};
+ghost use Rattle.tcp_flow.specs.Flow.{is_header_beginning as spec_is_header_beginning};
 
-use crate::flow::header_at;
+use crate::flow::index_of_header;
 
 /// How many octets the header of a message has.
 const HEADER: usize = 12;
@@ -15,11 +15,11 @@ const HEADER: usize = 12;
 /// Where a stream begins in these octets. Only the first place with `GIOP` 01 and 00, 01 or 02
 /// counts. It must be the front, or messages must follow one another from it up to the end, at
 /// least one of them whole.
-pub fn stream_at(octets: &[u8]) -> Option<usize>
-    ensures at { result ≡ spec_stream_at octets.now }
+pub fn stream_begin_in(octets: &[u8]) -> Option<usize>
+    ensures at { result ≡ spec_stream_begin_in octets.now }
     ensures within { IfSome result (λ place. place < length octets.now) }
 {
-    let Some(place) = header_at(octets) else {
+    let Some(place) = index_of_header(octets) else {
         return None;
     };
     if place == 0 {
@@ -38,7 +38,7 @@ fn is_chain(octets: &[u8]) -> bool
     let mut rest = octets;
     let mut whole = false;
     while !rest.is_empty() {
-        if !is_front(rest) {
+        if !may_be_header(rest) {
             return false;
         }
         let Some(end) = message_end(rest) else {
@@ -51,8 +51,8 @@ fn is_chain(octets: &[u8]) -> bool
 }
 
 /// Whether octets begin with `GIOP` 01 and 00, 01 or 02, as far as they go.
-fn is_front(octets: &[u8]) -> bool
-    ensures { result ≡ spec_is_front octets.now }
+fn may_be_header(octets: &[u8]) -> bool
+    ensures { result ≡ spec_may_be_header octets.now }
 {
     octet_or(octets, 0, b'G') == b'G'
         && octet_or(octets, 1, b'I') == b'I'
@@ -63,26 +63,26 @@ fn is_front(octets: &[u8]) -> bool
 }
 
 /// Whether octets are the first one to five of the six octets `GIOP` 01 and 00, 01 or 02.
-pub fn is_beginning(octets: &[u8]) -> bool
-    ensures { result ≡ spec_is_beginning octets.now }
+pub fn is_header_beginning(octets: &[u8]) -> bool
+    ensures { result ≡ spec_is_header_beginning octets.now }
 {
-    !octets.is_empty() && octets.len() < 6 && is_front(octets)
+    !octets.is_empty() && octets.len() < 6 && may_be_header(octets)
 }
 
 /// Whether `octets` after `before` begin with the six octets, as far as both go.
-pub(crate) fn is_front_of_both(before: &[u8], octets: &[u8]) -> bool
-    ensures { result ≡ spec_is_front (before.now ++ octets.now) }
+pub(crate) fn may_be_header_joined(before: &[u8], octets: &[u8]) -> bool
+    ensures { result ≡ spec_may_be_header (before.now ++ octets.now) }
 {
-    octet_of_both(before, octets, 0, b'G') == b'G'
-        && octet_of_both(before, octets, 1, b'I') == b'I'
-        && octet_of_both(before, octets, 2, b'O') == b'O'
-        && octet_of_both(before, octets, 3, b'P') == b'P'
-        && octet_of_both(before, octets, 4, 1) == 1
-        && octet_of_both(before, octets, 5, 0) <= 2
+    joined_octet_or(before, octets, 0, b'G') == b'G'
+        && joined_octet_or(before, octets, 1, b'I') == b'I'
+        && joined_octet_or(before, octets, 2, b'O') == b'O'
+        && joined_octet_or(before, octets, 3, b'P') == b'P'
+        && joined_octet_or(before, octets, 4, 1) == 1
+        && joined_octet_or(before, octets, 5, 0) <= 2
 }
 
 /// The octet at an index in `octets` after `before`, or `other` if both end before it.
-fn octet_of_both(before: &[u8], octets: &[u8], place: usize, other: u8) -> u8
+fn joined_octet_or(before: &[u8], octets: &[u8], place: usize, other: u8) -> u8
     ensures { result ≡ get_or (before.now ++ octets.now) place other }
 {
     if place < before.len() {
@@ -111,7 +111,7 @@ fn message_end(octets: &[u8]) -> Option<usize>
     if octets.len() < HEADER {
         return None;
     }
-    let end = HEADER + size_in(octets);
+    let end = HEADER + message_size_in(octets);
     if octets.len() < end {
         return None;
     }
@@ -120,21 +120,21 @@ fn message_end(octets: &[u8]) -> Option<usize>
 
 /// The size that a header has, in its byte order, which bit 0 of its 7th octet tells (GIOP Message
 /// Header).
-fn size_in(octets: &[u8]) -> usize
+fn message_size_in(octets: &[u8]) -> usize
     requires { 12 ≤ length octets.now }
-    ensures is { result ≡ spec_size_in octets.now }
+    ensures is { result ≡ spec_message_size_in octets.now }
     ensures bound { result < 2 ^ 32 }
 {
     if octets[6] % 2 == 1 {
-        weighed(octets[11], octets[10], octets[9], octets[8])
+        big_endian_number(octets[11], octets[10], octets[9], octets[8])
     } else {
-        weighed(octets[8], octets[9], octets[10], octets[11])
+        big_endian_number(octets[8], octets[9], octets[10], octets[11])
     }
 }
 
 /// Four octets as a number, the most significant first.
-fn weighed(a: u8, b: u8, c: u8, d: u8) -> usize
-    ensures is { result ≡ spec_weighed a b c d }
+fn big_endian_number(a: u8, b: u8, c: u8, d: u8) -> usize
+    ensures is { result ≡ spec_big_endian_number a b c d }
     ensures bound { result < 2 ^ 32 }
 {
     ((a as usize * 256 + b as usize) * 256 + c as usize) * 256 + d as usize

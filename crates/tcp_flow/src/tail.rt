@@ -2,9 +2,9 @@
 //! come.
 
 ghost use Rattle.std.specs.Prelude.{◌≡◌, ◌<◌, ◌+◌, take};
-ghost use Rattle.tcp_flow.specs.Flow.{first_five, octets_of, tail_of, lengthened, goes_on};
+ghost use Rattle.tcp_flow.specs.Flow.{first_five, octets_of, tail_of, lengthened, is_continued_by};
 
-use crate::looking::is_front_of_both;
+use crate::looking::may_be_header_joined;
 use tcp_waiting::onward;
 
 /// The first five of a header's six octets, which are the same in each version.
@@ -46,11 +46,11 @@ impl Tail {
 
     /// Whether octets at a number go on from the tail: the tail ends there, and both together begin
     /// with the six octets or are a beginning of them.
-    pub(crate) fn goes_on(&self, number: u32, octets: &[u8]) -> bool
-        ensures { result ≡ goes_on self.now number octets.now }
+    pub(crate) fn is_continued_by(&self, number: u32, octets: &[u8]) -> bool
+        ensures { result ≡ is_continued_by self.now number octets.now }
     {
         onward(self.number, self.octets as usize) == number
-            && is_front_of_both(self.octets(), octets)
+            && may_be_header_joined(self.octets(), octets)
     }
 
     /// The tail with one more payload of `octets` octets.

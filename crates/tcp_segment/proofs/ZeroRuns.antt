@@ -78,7 +78,7 @@ module _ (s : ℕ) (rest : List ℕ) (start len : ℕ) (of : IsLongestRun rest s
   }
 
   -- the run at the front, or the other one
-  abbrev one_of : Bool → ℕ × ℕ
+  abbrev one_of : (front : Bool) → ℕ × ℕ
   one_of front = if front then (0, zero_run (s ∷ rest)) else (start + 1, len)
 
   chosen : (front : Bool) → nat_le len (zero_run (s ∷ rest)) ≡ front

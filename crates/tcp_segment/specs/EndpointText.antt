@@ -12,7 +12,7 @@ use Rattle.tcp_segment.specs.declared.endpoint.Address.TheVariants.{V4, V6}
 use Rattle.tcp_segment.specs.declared.endpoint.Endpoint.{Endpoint}
 
 -- from an index on, this number of groups are zeros
-abbrev pub AreZeros : List ℕ → ℕ → ℕ → Type 0
+abbrev pub AreZeros : (groups : List ℕ) (start count : ℕ) → Type 0
 AreZeros groups at count = (k : ℕ) → at ≤ k → k < at + count → slice_index groups k ≡ 0
 
 -- the run of zeros that `::` stands for is the longest one, and the first one if several are
@@ -27,5 +27,5 @@ abbrev pub address_text : Address → List ℕ
 address_text (V4 octets) = ipv4_text octets
 address_text (V6 octets) = codes "[" ++ ipv6_text (segments_of octets) ++ codes "]"
 
-unfoldable pub endpoint_text : Endpoint → List ℕ
+unfoldable pub endpoint_text : (endpoint : Endpoint) → List ℕ
 endpoint_text endpoint = address_text endpoint.address ++ codes ":" ++ decimal endpoint.port

@@ -9,17 +9,17 @@ abbrev pub ◌>>=◌ : {A B : Type 0} → Option A → (A → Option B) → Opti
 o >>= f = option_and_then f o
 
 -- a value, if a condition holds
-abbrev pub provided : {A : Type 0} → Bool → Option A → Option A
+abbrev pub provided : {A : Type 0} (holds : Bool) (value : Option A) → Option A
 provided holds o = if holds then o else None
 
 -- this number of octets at an offset
-abbrev pub octets_at : ℕ → ℕ → List ℕ → List ℕ
+abbrev pub octets_at : (offset size : ℕ) (octets : List ℕ) → List ℕ
 octets_at at size octets = take size (drop at octets)
 
 -- the number in two octets at an offset
-unfoldable pub two_at : ℕ → List ℕ → ℕ
+unfoldable pub two_at : (offset : ℕ) (octets : List ℕ) → ℕ
 two_at at octets = from_be_bytes w16 (octets_at at 2 octets)
 
 -- the number in four octets at an offset
-unfoldable pub four_at : ℕ → List ℕ → ℕ
+unfoldable pub four_at : (offset : ℕ) (octets : List ℕ) → ℕ
 four_at at octets = from_be_bytes w32 (octets_at at 4 octets)

@@ -21,14 +21,14 @@ pub record Segment : Type 0 where
 
 -- ---- Endpoints.
 
-abbrev pub is_same_address : Address → Address → Bool
+abbrev pub is_same_address : (one other : Address) → Bool
 is_same_address (V4 a) (V4 b) = bytes_eq a b
 is_same_address (V4 a) (V6 b) = false
 is_same_address (V6 a) (V4 b) = false
 is_same_address (V6 a) (V6 b) = bytes_eq a b
 
 -- the same address and port
-abbrev pub is_same_endpoint : Endpoint → Endpoint → Bool
+abbrev pub is_same_endpoint : (one other : Endpoint) → Bool
 is_same_endpoint a b = is_same_address a.address b.address && a.port == b.port
 
 -- the source port and the destination port, each at its address
@@ -41,21 +41,21 @@ flow_of datagram = record {
 -- ---- The header.
 
 -- whether the control bits have this one, by its weight
-abbrev pub has_flag : ℕ → ℕ → Bool
+abbrev pub has_flag : (flags flag : ℕ) → Bool
 has_flag flags flag = not (bit_and flags flag == 0)
 
 -- the data offset, in words of four octets, and at least 20 octets; there is none if the segment
 -- doesn't hold the whole header
-abbrev pub header_size : List ℕ → Option ℕ
+abbrev pub header_size : (octets : List ℕ) → Option ℕ
 header_size octets =
     let size = slice_index octets 12 / 16 * 4 in
     provided (nat_le 20 size && nat_le size (length octets)) (Some size)
 
 -- the acknowledgement number, if ACK says that there is one
-abbrev pub acknowledgement_of : List ℕ → Option ℕ
+abbrev pub acknowledgement_of : (octets : List ℕ) → Option ℕ
 acknowledgement_of octets = provided (has_flag (slice_index octets 13) 16) (Some (four_at 8 octets))
 
-abbrev pub segment_behind : Datagram → ℕ → Segment
+abbrev pub segment_behind : (datagram : Datagram) (header : ℕ) → Segment
 segment_behind datagram header = record {
   flow = flow_of datagram;
   sequence = four_at 4 datagram.octets;
@@ -74,7 +74,7 @@ segment_in datagram = do
   provided (not (is_same_endpoint flow.from flow.to)) (Some (segment_behind datagram header))
 
 -- the segment in a packet of a capture, by the link type of its interface
-unfoldable pub segment : ℕ → List ℕ → Option Segment
+unfoldable pub segment : (link : ℕ) (octets : List ℕ) → Option Segment
 segment link octets = do
   packet ← packet_of link octets
   datagram ← datagram_of packet

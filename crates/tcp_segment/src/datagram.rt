@@ -1,7 +1,7 @@
 //! What an IP packet carries for TCP (RFC 791, RFC 8200), with the addresses of its header.
 
 ghost use Rattle.std.specs.Prelude.{◌≡◌, ◌≤◌, length, option_map, option_copied};
-ghost use Rattle.tcp_segment.specs.Datagrams.{limited, is_fragment, carries_whole_tcp, ipv4, is_extension, extension_size, is_cut_extension, behind_extension, behind_extensions, payload_of, behind_headers, ipv6, datagram_of, datagram_view};
+ghost use Rattle.tcp_segment.specs.Datagrams.{cut_to_length, is_fragment, carries_whole_tcp, ipv4, is_extension, extension_size, is_of_fragment, behind_extension, behind_extensions, ipv6_payload, tcp_behind_headers, ipv6, datagram_of, datagram_view};
 ghost use Rattle.tcp_segment.specs.Frames.{packet_view};
 
 use crate::endpoint::Address;
@@ -24,9 +24,9 @@ const EXTENSIONS: usize = 8;
 
 /// The first octets, as many as a length field says. 0 means all: if the sender's hardware will cut a segment later, the
 /// length of its packet fits no field.
-#[tactic(auto, unfolding(crate::specs::Datagrams::limited))]
-fn limited(length: u16, octets: &[u8]) -> &[u8]
-    ensures { result.now ≡ limited length octets.now }
+#[tactic(auto, unfolding(crate::specs::Datagrams::cut_to_length))]
+fn cut_to_length(length: u16, octets: &[u8]) -> &[u8]
+    ensures { result.now ≡ cut_to_length length octets.now }
 {
     let length = usize::from(length);
     if length == 0 || octets.len() <= length {
@@ -59,7 +59,7 @@ fn ipv4(octets: &[u8]) -> Option<Datagram<'_>>
         return None;
     }
     let header = usize::from(octets[0] % 16) * 4;
-    let packet = limited(two_at(octets, 2), octets);
+    let packet = cut_to_length(two_at(octets, 2), octets);
     if header < 20 || packet.len() < header {
         return None;
     }
@@ -92,9 +92,9 @@ fn extension_size(header: u8, octets: &[u8]) -> usize
 }
 
 /// Whether an extension header belongs to a fragment of a packet: its offset isn't 0, or more fragments follow.
-fn is_cut_extension(header: u8, octets: &[u8]) -> bool
+fn is_of_fragment(header: u8, octets: &[u8]) -> bool
     requires { 4 ≤ length octets.now }
-    ensures { result ≡ is_cut_extension header octets.now }
+    ensures { result ≡ is_of_fragment header octets.now }
 {
     let offset_and_more = two_at(octets, 2);
     header == 44 && (offset_and_more / 8 != 0 || offset_and_more % 2 == 1)
@@ -105,7 +105,7 @@ fn is_cut_extension(header: u8, octets: &[u8]) -> bool
 fn behind_extension(header: u8, octets: &[u8]) -> Option<(u8, &[u8])>
     ensures { option_map (λ x. (x.0, x.1.now)) result ≡ behind_extension header octets.now }
 {
-    if octets.len() < 8 || is_cut_extension(header, octets) {
+    if octets.len() < 8 || is_of_fragment(header, octets) {
         return None;
     }
     let size = extension_size(header, octets);
@@ -131,21 +131,21 @@ fn behind_extensions(header: u8, octets: &[u8]) -> Option<(u8, &[u8])>
 }
 
 /// What comes after the header of an IPv6 packet, as far as its payload length says.
-#[tactic(auto, unfolding(crate::specs::Datagrams::payload_of))]
-fn payload_of(octets: &[u8]) -> &[u8]
+#[tactic(auto, unfolding(crate::specs::Datagrams::ipv6_payload))]
+fn ipv6_payload(octets: &[u8]) -> &[u8]
     requires { 40 ≤ length octets.now }
-    ensures { result.now ≡ payload_of octets.now }
+    ensures { result.now ≡ ipv6_payload octets.now }
 {
-    limited(two_at(octets, 4), &octets[40..])
+    cut_to_length(two_at(octets, 4), &octets[40..])
 }
 
 /// What comes after the last header of an IPv6 packet, if that names TCP.
-#[tactic(auto, unfolding(crate::specs::Datagrams::behind_headers))]
-fn behind_headers(octets: &[u8]) -> Option<&[u8]>
+#[tactic(auto, unfolding(crate::specs::Datagrams::tcp_behind_headers))]
+fn tcp_behind_headers(octets: &[u8]) -> Option<&[u8]>
     requires { 40 ≤ length octets.now }
-    ensures { option_copied result ≡ behind_headers octets.now }
+    ensures { option_copied result ≡ tcp_behind_headers octets.now }
 {
-    let (protocol, upper) = behind_extensions(octets[6], payload_of(octets))?;
+    let (protocol, upper) = behind_extensions(octets[6], ipv6_payload(octets))?;
     if protocol == TCP { Some(upper) } else { None }
 }
 
@@ -157,7 +157,7 @@ fn ipv6(octets: &[u8]) -> Option<Datagram<'_>>
     if octets.len() < 40 || octets[0] / 16 != 6 {
         return None;
     }
-    let upper = behind_headers(octets)?;
+    let upper = tcp_behind_headers(octets)?;
     Some(Datagram {
         source: Address::V6(octets_at(octets, 8)),
         destination: Address::V6(octets_at(octets, 24)),

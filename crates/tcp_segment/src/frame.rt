@@ -1,7 +1,7 @@
 //! The IP packet in a frame, and its version, by the link type of the capture.
 
 ghost use Rattle.std.specs.Prelude.{◌≡◌, ◌≤◌, length, option_map};
-ghost use Rattle.tcp_segment.specs.Frames.{is_tag, behind_tag, behind_tags, version_of_type, typed, ethernet, cooked, cooked_2, is_family, version_of_family, loopback, version_of_raw, raw, packet_of, packet_view};
+ghost use Rattle.tcp_segment.specs.Frames.{is_tag, behind_tag, behind_tags, version_of_type, packet_of_type, ethernet, cooked, cooked_2, is_family, version_of_family, loopback, version_of_raw, raw, packet_of, packet_view};
 
 use crate::octets::{four_at, octets_at, two_at};
 
@@ -68,9 +68,9 @@ fn version_of_type(kind: u16) -> Option<Version>
 }
 
 /// The packet after an Ethernet type and its tags.
-#[tactic(auto, unfolding(crate::specs::Frames::typed))]
-fn typed(kind: u16, octets: &[u8]) -> Option<Packet<'_>>
-    ensures { option_map packet_view result ≡ typed kind octets.now }
+#[tactic(auto, unfolding(crate::specs::Frames::packet_of_type))]
+fn packet_of_type(kind: u16, octets: &[u8]) -> Option<Packet<'_>>
+    ensures { option_map packet_view result ≡ packet_of_type kind octets.now }
 {
     let (kind, octets) = behind_tags(kind, octets)?;
     let version = version_of_type(kind)?;
@@ -84,7 +84,7 @@ fn ethernet(octets: &[u8]) -> Option<Packet<'_>>
     if octets.len() < 14 {
         return None;
     }
-    typed(two_at(octets, 12), &octets[14..])
+    packet_of_type(two_at(octets, 12), &octets[14..])
 }
 
 /// The packet in a frame of Linux's cooked capture.
@@ -94,7 +94,7 @@ fn cooked(octets: &[u8]) -> Option<Packet<'_>>
     if octets.len() < 16 {
         return None;
     }
-    typed(two_at(octets, 14), &octets[16..])
+    packet_of_type(two_at(octets, 14), &octets[16..])
 }
 
 /// The packet in a frame of Linux's cooked capture, version 2.
@@ -104,7 +104,7 @@ fn cooked_2(octets: &[u8]) -> Option<Packet<'_>>
     if octets.len() < 20 {
         return None;
     }
-    typed(two_at(octets, 0), &octets[20..])
+    packet_of_type(two_at(octets, 0), &octets[20..])
 }
 
 /// Whether a loopback frame begins with this address family, in either byte order.

@@ -1,5 +1,5 @@
 -- Rows of slots: which are full while one of them has a free place.
-use Rattle.std.proofs.Common.{◌≡◌, ℕ, zero, suc, ◌+◌, ◌*◌, ◌-◌, ◌/◌, ◌%◌, ◌<◌, ◌≤◌, ◌≢◌, List, [], ◌∷◌, ◌++◌, length, get_or, set, refl, sym, ap, ◌∙◌, subst, arith, inl, inr, append_assoc, length-append}
+use Rattle.std.proofs.Common.{◌≡◌, ℕ, zero, suc, ◌+◌, ◌*◌, ◌-◌, ◌/◌, ◌%◌, ◌<◌, ◌≤◌, ◌≢◌, List, [], ◌∷◌, ◌++◌, length, get_or, set, refl, sym, ap, ◌∙◌, subst, arith, inl, inr, append_assoc, append-nil, length-append}
 use Rattle.std.specs.List.{insert, remove, concat}
 use Rattle.std.proofs.lemmas.Bool.{cases_eq, cases_lt}
 use Rattle.std.proofs.lemmas.List.{nil_from_length, get_or_append_left, get_or_past, get_or-append-add, get_or-map, get_or-set_other, map-set, length-map}
@@ -12,41 +12,41 @@ use Rattle.std.specs.declared.collections.VecDeque.{VecDeque}
 use Rattle.tcp_slots.specs.Order.{IsFilled, HasGap, HaveMemory, rows_of}
 
 -- a row is full if it and those after it have slots enough
-full : (r : List ℕ) (rs : List (List ℕ)) → IsFilled (r ∷ rs) → 2048 ≤ length (concat (r ∷ rs)) →
-    length r ≡ 2048
+full : (r : List ℕ) (rs : List (List ℕ)) → IsFilled (r ∷ rs) → 1024 ≤ length (concat (r ∷ rs)) →
+    length r ≡ 1024
 unfolding IsFilled
 full r rs h m =
     let n = length-append r (concat rs) in
-    elim (cases_lt (length r) 2048) [
+    elim (cases_lt (length r) 1024) [
       | inl l ↦ (let e = ap length (h.1 l) in absurd (omega (arith, l, m, n, e)))
       | inr g ↦ omega (arith, g, h.0)
     ]
 
 -- the row in which the slots end has a free place
 pub opened : (k : ℕ) (rs : List (List ℕ)) → IsFilled rs → k < length rs →
-    2048 * k ≤ length (concat rs) → length (concat rs) < 2048 * suc k → HasGap k rs
+    1024 * k ≤ length (concat rs) → length (concat rs) < 1024 * suc k → HasGap k rs
 unfolding IsFilled HasGap
 opened k [] h l a b = absurd (omega (arith, l))
 opened zero (r ∷ rs) h l a b =
     let n = length-append r (concat rs) in
-    let few : length r < 2048 = omega (arith, b, n) in
+    let few : length r < 1024 = omega (arith, b, n) in
     (few, λ m. h.1 few, h.2)
 opened (suc k) (r ∷ rs) h l a b =
     let n = length-append r (concat rs) in
-    let e : length r ≡ 2048 = full r rs h (omega (arith, a)) in (
+    let e : length r ≡ 1024 = full r rs h (omega (arith, a)) in (
       e,
       opened k rs h.2 (omega (arith, l)) (omega (arith, a, n, e)) (omega (arith, b, n, e)),
     )
 
 -- the free place is after the last slot, so the rows are filled
-pub closed : (k : ℕ) (rs : List (List ℕ)) → HasGap k rs → 2048 * k ≤ length (concat rs) →
-    length (concat rs) < 2048 * suc k → IsFilled rs
+pub closed : (k : ℕ) (rs : List (List ℕ)) → HasGap k rs → 1024 * k ≤ length (concat rs) →
+    length (concat rs) < 1024 * suc k → IsFilled rs
 unfolding IsFilled HasGap
 closed k [] h a b = absurd h
 closed zero (r ∷ rs) h a b =
     let n = length-append r (concat rs) in (
       omega (arith, h.0),
-      λ m. elim (cases_lt (suc (length r)) 2048) [
+      λ m. elim (cases_lt (suc (length r)) 1024) [
         | inl l ↦ h.1 l
         | inr g ↦ nil_from_length (concat rs) (omega (arith, g, b, n))
       ],
@@ -60,7 +60,7 @@ closed (suc k) (r ∷ rs) h a b =
     )
 
 -- filled rows have at most as many slots as there is memory for
-pub most_filled : (rs : List (List ℕ)) → IsFilled rs → length (concat rs) ≤ 2048 * length rs
+pub most_filled : (rs : List (List ℕ)) → IsFilled rs → length (concat rs) ≤ 1024 * length rs
 unfolding IsFilled
 most_filled [] h = omega arith
 most_filled (r ∷ rs) h =
@@ -68,7 +68,7 @@ most_filled (r ∷ rs) h =
 
 -- the row with the free place exists, and isn't full
 pub gap_row : (k : ℕ) (rs : List (List ℕ)) → HasGap k rs →
-    (k < length rs) × (length (get_or rs k []) < 2048)
+    (k < length rs) × (length (get_or rs k []) < 1024)
 unfolding HasGap
 gap_row k [] h = absurd h
 gap_row zero (r ∷ rs) h = (omega arith, h.0)
@@ -77,7 +77,7 @@ gap_row (suc k) (r ∷ rs) h =
 
 -- the row before the one with the free place is full
 pub row_before : (k : ℕ) (rs : List (List ℕ)) → HasGap (suc k) rs →
-    length (get_or rs k []) ≡ 2048
+    length (get_or rs k []) ≡ 1024
 unfolding HasGap
 row_before k [] h = absurd h
 row_before zero (r ∷ rs) h = h.0
@@ -85,7 +85,7 @@ row_before (suc k) (r ∷ rs) h = row_before k rs h.1
 
 -- the row after the one with the free place has slots, if there are enough
 pub row_behind : (k : ℕ) (rs : List (List ℕ)) → HasGap k rs →
-    2048 * suc k ≤ length (concat rs) → 0 < length (get_or rs (suc k) [])
+    1024 * suc k ≤ length (concat rs) → 0 < length (get_or rs (suc k) [])
 unfolding HasGap IsFilled
 row_behind k [] h m = absurd h
 row_behind zero (r ∷ []) h m =
@@ -134,7 +134,7 @@ passed_back zero (r ∷ q ∷ rs) x s h e =
     let n = length-append r (x ∷ []) in
     let o = length-append q (concat rs) in
     let m : length q ≡ length (x ∷ s) = ap length e in
-    let f : length (r ++ x ∷ []) ≡ 2048 = elim (cases_lt (suc (length r)) 2048) [
+    let f : length (r ++ x ∷ []) ≡ 1024 = elim (cases_lt (suc (length r)) 1024) [
       | inl l ↦ (let z = ap length (h.1 l) in absurd (omega (arith, z, o, m)))
       | inr g ↦ omega (arith, g, n, h.0)
     ] in (
@@ -152,20 +152,20 @@ passed_back (suc k) (q ∷ rs) x s h e =
     let i = passed_back k rs x s h.1 e in ((h.0, i.0), ap (λ l. q ++ l) i.1)
 
 -- a slot is inserted into the row with the free place
-pub inserted : (k i x : ℕ) (rs : List (List ℕ)) → HasGap k rs → i < 2048 →
-    2048 * k + i ≤ length (concat rs) →
+pub inserted : (k i x : ℕ) (rs : List (List ℕ)) → HasGap k rs → i < 1024 →
+    1024 * k + i ≤ length (concat rs) →
     (i ≤ length (get_or rs k [])) × IsFilled (set rs k (insert (get_or rs k []) i x))
-    × (concat (set rs k (insert (get_or rs k []) i x)) ≡ insert (concat rs) (2048 * k + i) x)
+    × (concat (set rs k (insert (get_or rs k []) i x)) ≡ insert (concat rs) (1024 * k + i) x)
 unfolding HasGap IsFilled
 inserted k i x [] h l m = absurd h
 inserted zero i x (r ∷ rs) h l m =
     let n = length-append r (concat rs) in
-    let inside : i ≤ length r = elim (cases_lt (suc (length r)) 2048) [
+    let inside : i ≤ length r = elim (cases_lt (suc (length r)) 1024) [
       | inl f ↦ (let z = ap length (h.1 f) in omega (arith, z, m, n))
       | inr g ↦ omega (arith, g, l)
     ] in
     let o = length-insert r i x inside in
-    let at : 2048 * 0 + i ≡ i = omega arith in (
+    let at : 1024 * 0 + i ≡ i = omega arith in (
       inside,
       (omega (arith, o, h.0), λ f. h.1 (omega (arith, o, f)), h.2),
       sym (ap (λ j. insert (r ++ concat rs) j x) at ∙ insert-append_left r (concat rs) i x inside),
@@ -173,67 +173,93 @@ inserted zero i x (r ∷ rs) h l m =
 inserted (suc k) i x (r ∷ rs) h l m =
     let n = length-append r (concat rs) in
     let j = inserted k i x rs h.1 l (omega (arith, n, m, h.0)) in
-    let at : 2048 * suc k + i - 2048 ≡ 2048 * k + i = omega arith in (
+    let at : 1024 * suc k + i - 1024 ≡ 1024 * k + i = omega arith in (
       j.0,
       (omega (arith, h.0), λ f. absurd (omega (arith, f, h.0)), j.1),
       ap (λ c. r ++ c) (j.2 ∙ ap (λ p. insert (concat rs) p x) (sym at))
-          ∙ sym (insert-append_right r (concat rs) 2048 (2048 * suc k + i) x h.0 (omega arith)),
+          ∙ sym (insert-append_right r (concat rs) 1024 (1024 * suc k + i) x h.0 (omega arith)),
     )
 
 -- a slot is removed, and leaves a free place in its row
-pub removed : (k i : ℕ) (rs : List (List ℕ)) → IsFilled rs → i < 2048 →
-    2048 * k + i < length (concat rs) →
+pub removed : (k i : ℕ) (rs : List (List ℕ)) → IsFilled rs → i < 1024 →
+    1024 * k + i < length (concat rs) →
     HasGap k (set rs k (remove (get_or rs k []) i))
-    × (concat (set rs k (remove (get_or rs k []) i)) ≡ remove (concat rs) (2048 * k + i))
+    × (concat (set rs k (remove (get_or rs k []) i)) ≡ remove (concat rs) (1024 * k + i))
 unfolding HasGap IsFilled
 removed k i [] h l m = absurd (omega (arith, m))
 removed zero i (r ∷ rs) h l m =
     let n = length-append r (concat rs) in
-    let inside : i < length r = elim (cases_lt (length r) 2048) [
+    let inside : i < length r = elim (cases_lt (length r) 1024) [
       | inl f ↦ (let z = ap length (h.1 f) in omega (arith, z, m, n))
       | inr g ↦ omega (arith, g, l)
     ] in
     let o = length-remove r i inside in
-    let at : 2048 * 0 + i ≡ i = omega arith in (
+    let at : 1024 * 0 + i ≡ i = omega arith in (
       (omega (arith, o, h.0), λ f. h.1 (omega (arith, o, f)), h.2),
       sym (ap (remove (r ++ concat rs)) at ∙ remove-append_left r (concat rs) i inside),
     )
 removed (suc k) i (r ∷ rs) h l m =
     let n = length-append r (concat rs) in
-    let f : length r ≡ 2048 = full r rs h (omega (arith, m)) in
+    let f : length r ≡ 1024 = full r rs h (omega (arith, m)) in
     let j = removed k i rs h.2 l (omega (arith, n, m, f)) in
-    let at : 2048 * suc k + i - 2048 ≡ 2048 * k + i = omega arith in (
+    let at : 1024 * suc k + i - 1024 ≡ 1024 * k + i = omega arith in (
       (f, j.0),
       ap (λ c. r ++ c) (j.1 ∙ ap (remove (concat rs)) (sym at))
-          ∙ sym (remove-append_right r (concat rs) 2048 (2048 * suc k + i) f (omega arith)),
+          ∙ sym (remove-append_right r (concat rs) 1024 (1024 * suc k + i) f (omega arith)),
+    )
+
+-- the last slot of all leaves its row
+pub last_left : (k x : ℕ) (r : List ℕ) (rs : List (List ℕ)) → IsFilled rs →
+    1024 * k < length (concat rs) → length (concat rs) ≤ 1024 * suc k →
+    get_or rs k [] ≡ r ++ x ∷ [] →
+    IsFilled (set rs k r) × (concat rs ≡ concat (set rs k r) ++ x ∷ [])
+unfolding IsFilled
+last_left k x r [] h a b e = absurd (omega (arith, a))
+last_left zero x r (q ∷ rs) h a b e =
+    let n = length-append q (concat rs) in
+    let m = ap length e in
+    let o = length-append r (x ∷ []) in
+    let none : concat rs ≡ [] = elim (cases_lt (length q) 1024) [
+      | inl l ↦ h.1 l
+      | inr g ↦ nil_from_length (concat rs) (omega (arith, g, b, n))
+    ] in (
+      (omega (arith, h.0, m, o), λ l. none, h.2),
+      rw (e, none) (append-nil (r ++ x ∷ []) ∙ ap (λ l. l ++ x ∷ []) (sym (append-nil r))),
+    )
+last_left (suc k) x r (q ∷ rs) h a b e =
+    let n = length-append q (concat rs) in
+    let f : length q ≡ 1024 = full q rs h (omega (arith, a)) in
+    let i = last_left k x r rs h.2 (omega (arith, a, n, f)) (omega (arith, b, n, f)) e in (
+      (h.0, λ l. absurd (omega (arith, l, f)), i.0),
+      ap (λ l. q ++ l) i.1 ∙ sym (append_assoc q (concat (set rs k r)) (x ∷ [])),
     )
 
 -- the row of a slot, and its place there
-pub found : (k i d : ℕ) (rs : List (List ℕ)) → IsFilled rs → i < 2048 →
-    2048 * k + i < length (concat rs) →
+pub found : (k i d : ℕ) (rs : List (List ℕ)) → IsFilled rs → i < 1024 →
+    1024 * k + i < length (concat rs) →
     (k < length rs) × (i < length (get_or rs k []))
-    × (get_or (concat rs) (2048 * k + i) d ≡ get_or (get_or rs k []) i d)
+    × (get_or (concat rs) (1024 * k + i) d ≡ get_or (get_or rs k []) i d)
 unfolding IsFilled
 found k i d [] h l m = absurd (omega (arith, m))
 found zero i d (r ∷ rs) h l m =
     let n = length-append r (concat rs) in
-    let inside : i < length r = elim (cases_lt (length r) 2048) [
+    let inside : i < length r = elim (cases_lt (length r) 1024) [
       | inl f ↦ (let z = ap length (h.1 f) in omega (arith, z, m, n))
       | inr g ↦ omega (arith, g, l)
     ] in
-    let at : 2048 * 0 + i ≡ i = omega arith in (
+    let at : 1024 * 0 + i ≡ i = omega arith in (
       omega arith,
       inside,
       ap (λ j. get_or (r ++ concat rs) j d) at ∙ get_or_append_left r (concat rs) d i inside,
     )
 found (suc k) i d (r ∷ rs) h l m =
     let n = length-append r (concat rs) in
-    let f : length r ≡ 2048 = full r rs h (omega (arith, m)) in
+    let f : length r ≡ 1024 = full r rs h (omega (arith, m)) in
     let j = found k i d rs h.2 l (omega (arith, n, m, f)) in
-    let at : 2048 * suc k + i ≡ length r + (2048 * k + i) = omega (arith, f) in (
+    let at : 1024 * suc k + i ≡ length r + (1024 * k + i) = omega (arith, f) in (
       omega (arith, j.0),
       j.1,
-      ap (λ p. get_or (r ++ concat rs) p d) at ∙ get_or-append-add r (concat rs) (2048 * k + i) d
+      ap (λ p. get_or (r ++ concat rs) p d) at ∙ get_or-append-add r (concat rs) (1024 * k + i) d
           ∙ j.2,
     )
 
@@ -248,8 +274,8 @@ all_at P (y ∷ ys) (suc k) d l h = all_at P ys k d (omega (arith, l)) h.1
 module _ {Z : Type 0} (bs : List (VecDeque ℕ Z)) where
   -- a block has memory
   pub memory_at : (k : ℕ) (d : VecDeque ℕ Z) → k < length bs → HaveMemory bs →
-      2048 ≤ deque_capacity (get_or bs k d)
-  memory_at k d l h = all_at (λ b. 2048 ≤ deque_capacity b) bs k d l h.each
+      1024 ≤ deque_capacity (get_or bs k d)
+  memory_at k d l h = all_at (λ b. 1024 ≤ deque_capacity b) bs k d l h.each
 
   -- the row of a block
   pub row_at : (k : ℕ) (d : VecDeque ℕ Z) → k < length bs →
@@ -269,7 +295,7 @@ module _ {Z : Type 0} (bs : List (VecDeque ℕ Z)) where
 
   -- the block before the one with the free place is full
   pub full_before : (k : ℕ) (d : VecDeque ℕ Z) → HasGap (suc k) (rows_of bs) →
-      deque_len (get_or bs k d) ≡ 2048
+      deque_len (get_or bs k d) ≡ 1024
   full_before k d h = let l = gap_block (suc k) h in
       block_len k d (omega (arith, l)) ∙ row_before k (rows_of bs) h
 
@@ -291,7 +317,7 @@ module _ {Z : Type 0} (bs : List (VecDeque ℕ Z)) where
 
   -- the block after it has slots, if there are enough
   pub some_behind : (k : ℕ) → HasGap k (rows_of bs) →
-      2048 * suc k ≤ length (concat (rows_of bs)) →
+      1024 * suc k ≤ length (concat (rows_of bs)) →
       (k + 1 < length bs) × ((d : VecDeque ℕ Z) → 0 < deque_len (get_or bs (k + 1) d))
   some_behind k h m =
       let next : suc k ≡ k + 1 = omega arith in
@@ -357,35 +383,35 @@ module _ {Z : Type 0} (bs : List (VecDeque ℕ Z)) where
 
   -- the block of a slot
   pub block_of : (index : ℕ) → IsFilled (rows_of bs) → index < length (concat (rows_of bs)) →
-      index / 2048 < length bs
+      index / 1024 < length bs
   block_of index h l =
-      let f = found (index / 2048) (index % 2048) 0 (rows_of bs) h (omega arith)
+      let f = found (index / 1024) (index % 1024) 0 (rows_of bs) h (omega arith)
       (omega (arith, l)) in
       let n = length-map bs deque_items in omega (arith, f.0, n)
 
   -- the index of a slot in its block
   pub stands : (index d : ℕ) (e : VecDeque ℕ Z) → IsFilled (rows_of bs) →
       index < length (concat (rows_of bs)) →
-      (index % 2048 < deque_len (get_or bs (index / 2048) e))
+      (index % 1024 < deque_len (get_or bs (index / 1024) e))
       × (get_or (concat (rows_of bs)) index d
-      ≡ get_or (get_or bs (index / 2048) e).items (index % 2048) d)
+      ≡ get_or (get_or bs (index / 1024) e).items (index % 1024) d)
   stands index d e h l =
-      let whole : index ≡ 2048 * (index / 2048) + index % 2048 = omega arith in
-      let f = found (index / 2048) (index % 2048) d (rows_of bs) h (omega arith)
+      let whole : index ≡ 1024 * (index / 1024) + index % 1024 = omega arith in
+      let f = found (index / 1024) (index % 1024) d (rows_of bs) h (omega arith)
       (omega (arith, l)) in
       let k = block_of index h l in
-      let m = block_len (index / 2048) e k in (
+      let m = block_len (index / 1024) e k in (
         omega (arith, f.1, m),
         ap (λ p. get_or (concat (rows_of bs)) p d) whole ∙ f.2
-            ∙ ap (λ r. get_or r (index % 2048) d) (row_at (index / 2048) e k),
+            ∙ ap (λ r. get_or r (index % 1024) d) (row_at (index / 1024) e k),
       )
 
   -- the block in which the slots end has a free place
   pub free_behind : (len : ℕ) → IsFilled (rows_of bs) → len ≡ length (concat (rows_of bs)) →
-      len < 2048 * length bs → HasGap (len / 2048) (rows_of bs)
+      len < 1024 * length bs → HasGap (len / 1024) (rows_of bs)
   free_behind len h e l =
       let n = length-map bs deque_items in
-      opened (len / 2048) (rows_of bs) h (omega (arith, l, n)) (omega (arith, e))
+      opened (len / 1024) (rows_of bs) h (omega (arith, l, n)) (omega (arith, e))
       (omega (arith, e))
 
   one_row : (k : ℕ) (b : VecDeque ℕ Z) (r : List ℕ) → b.items ≡ r →
@@ -393,46 +419,60 @@ module _ {Z : Type 0} (bs : List (VecDeque ℕ Z)) where
   one_row k b r e = map-set deque_items bs k b ∙ ap (set (rows_of bs) k) e
 
   -- a slot is inserted into a block with a free place
-  pub block_inserted : (index x : ℕ) (d b : VecDeque ℕ Z) → HasGap (index / 2048) (rows_of bs) →
+  pub block_inserted : (index x : ℕ) (d b : VecDeque ℕ Z) → HasGap (index / 1024) (rows_of bs) →
       index ≤ length (concat (rows_of bs)) →
-      b.items ≡ insert (get_or bs (index / 2048) d).items (index % 2048) x →
-      IsFilled (rows_of (set bs (index / 2048) b))
-      × (concat (rows_of (set bs (index / 2048) b)) ≡ insert (concat (rows_of bs)) index x)
+      b.items ≡ insert (get_or bs (index / 1024) d).items (index % 1024) x →
+      IsFilled (rows_of (set bs (index / 1024) b))
+      × (concat (rows_of (set bs (index / 1024) b)) ≡ insert (concat (rows_of bs)) index x)
   block_inserted index x d b h l e =
-      let k : ℕ = index / 2048 in
-      let whole : 2048 * (index / 2048) + index % 2048 ≡ index = omega arith in
-      let f = inserted k (index % 2048) x (rows_of bs) h (omega arith) (omega (arith, l)) in
-      let rows = one_row k b (insert (get_or (rows_of bs) k []) (index % 2048) x)
-      (e ∙ ap (λ r. insert r (index % 2048) x) (sym (row_at k d (gap_block k h)))) in
+      let k : ℕ = index / 1024 in
+      let whole : 1024 * (index / 1024) + index % 1024 ≡ index = omega arith in
+      let f = inserted k (index % 1024) x (rows_of bs) h (omega arith) (omega (arith, l)) in
+      let rows = one_row k b (insert (get_or (rows_of bs) k []) (index % 1024) x)
+      (e ∙ ap (λ r. insert r (index % 1024) x) (sym (row_at k d (gap_block k h)))) in
       subst (λ (rs : List (List ℕ)). IsFilled rs
       × (concat rs ≡ insert (concat (rows_of bs)) index x)) (sym rows)
       (f.1, f.2 ∙ ap (λ p. insert (concat (rows_of bs)) p x) whole)
 
   -- the place is within the block
-  pub index_inside : (index : ℕ) (d : VecDeque ℕ Z) → HasGap (index / 2048) (rows_of bs) →
+  pub index_inside : (index : ℕ) (d : VecDeque ℕ Z) → HasGap (index / 1024) (rows_of bs) →
       index ≤ length (concat (rows_of bs)) →
-      index % 2048 ≤ deque_len (get_or bs (index / 2048) d)
+      index % 1024 ≤ deque_len (get_or bs (index / 1024) d)
   index_inside index d h l =
-      let f = inserted (index / 2048) (index % 2048) 0 (rows_of bs) h (omega arith)
+      let f = inserted (index / 1024) (index % 1024) 0 (rows_of bs) h (omega arith)
       (omega (arith, l)) in
-      let n = block_len (index / 2048) d (gap_block (index / 2048) h) in omega (arith, f.0, n)
+      let n = block_len (index / 1024) d (gap_block (index / 1024) h) in omega (arith, f.0, n)
 
   -- a slot is removed from a block
   pub block_removed : (index : ℕ) (d b : VecDeque ℕ Z) → IsFilled (rows_of bs) →
       index < length (concat (rows_of bs)) →
-      b.items ≡ remove (get_or bs (index / 2048) d).items (index % 2048) →
-      HasGap (index / 2048) (rows_of (set bs (index / 2048) b))
-      × (concat (rows_of (set bs (index / 2048) b)) ≡ remove (concat (rows_of bs)) index)
+      b.items ≡ remove (get_or bs (index / 1024) d).items (index % 1024) →
+      HasGap (index / 1024) (rows_of (set bs (index / 1024) b))
+      × (concat (rows_of (set bs (index / 1024) b)) ≡ remove (concat (rows_of bs)) index)
   block_removed index d b h l e =
-      let k : ℕ = index / 2048 in
-      let whole : 2048 * (index / 2048) + index % 2048 ≡ index = omega arith in
+      let k : ℕ = index / 1024 in
+      let whole : 1024 * (index / 1024) + index % 1024 ≡ index = omega arith in
       let within = block_of index h l in
-      let f = removed k (index % 2048) (rows_of bs) h (omega arith) (omega (arith, l)) in
-      let rows = one_row k b (remove (get_or (rows_of bs) k []) (index % 2048))
-      (e ∙ ap (λ r. remove r (index % 2048)) (sym (row_at k d within))) in
+      let f = removed k (index % 1024) (rows_of bs) h (omega arith) (omega (arith, l)) in
+      let rows = one_row k b (remove (get_or (rows_of bs) k []) (index % 1024))
+      (e ∙ ap (λ r. remove r (index % 1024)) (sym (row_at k d within))) in
       subst (λ (rs : List (List ℕ)). HasGap k rs
       × (concat rs ≡ remove (concat (rows_of bs)) index)) (sym rows)
       (f.0, f.1 ∙ ap (remove (concat (rows_of bs))) whole)
+
+  -- the last slot of all leaves its block
+  pub block_last : (len x : ℕ) (d b : VecDeque ℕ Z) → IsFilled (rows_of bs) →
+      len ≡ length (concat (rows_of bs)) → 0 < len →
+      (get_or bs ((len - 1) / 1024) d).items ≡ b.items ++ x ∷ [] →
+      IsFilled (rows_of (set bs ((len - 1) / 1024) b))
+      × (concat (rows_of bs) ≡ concat (rows_of (set bs ((len - 1) / 1024) b)) ++ x ∷ [])
+  block_last len x d b h n l e =
+      let k : ℕ = (len - 1) / 1024 in
+      let within = block_of (len - 1) h (omega (arith, n, l)) in
+      subst (λ (rs : List (List ℕ)). IsFilled rs
+      × (concat (rows_of bs) ≡ concat rs ++ x ∷ [])) (sym (one_row k b b.items refl))
+      (last_left k x b.items (rows_of bs) h (omega (arith, n, l)) (omega (arith, n, l))
+      (row_at k d within ∙ e))
 
 all_push : {X : Type 0} (P : X → Type 0) (xs : List X) (x : X) → P x → AllByRecursion P xs →
     AllByRecursion P (xs ++ x ∷ [])
@@ -449,11 +489,11 @@ given {P = P} r x e p = subst (λ o. OnSome o P) e p
 
 -- no blocks
 pub none_filled : {Z : Type 0} (bs : List (VecDeque ℕ Z)) → bs ≡ [] →
-    AllByRecursion (λ b. 2048 ≤ deque_capacity b) bs × IsFilled (rows_of bs)
+    AllByRecursion (λ b. 1024 ≤ deque_capacity b) bs × IsFilled (rows_of bs)
     × (concat (rows_of bs) ≡ [])
 unfolding IsFilled
 none_filled {Z} bs e = subst (λ (l : List (VecDeque ℕ Z)).
-    AllByRecursion (λ b. 2048 ≤ deque_capacity b) l × IsFilled (rows_of l)
+    AllByRecursion (λ b. 1024 ≤ deque_capacity b) l × IsFilled (rows_of l)
     × (concat (rows_of l) ≡ [])) (sym e) (tt, tt, refl)
 
 -- one more block, which is empty
@@ -476,13 +516,13 @@ empty_more (c ∷ cs) b e h =
     )
 
 pub more_filled : {Z : Type 0} (bs : List (VecDeque ℕ Z)) (b : VecDeque ℕ Z)
-    (cs : List (VecDeque ℕ Z)) → cs ≡ bs ++ b ∷ [] → b.items ≡ [] → 2048 ≤ deque_capacity b →
-    AllByRecursion (λ b. 2048 ≤ deque_capacity b) bs → concat (rows_of bs) ≡ [] →
-    AllByRecursion (λ b. 2048 ≤ deque_capacity b) cs × IsFilled (rows_of cs)
+    (cs : List (VecDeque ℕ Z)) → cs ≡ bs ++ b ∷ [] → b.items ≡ [] → 1024 ≤ deque_capacity b →
+    AllByRecursion (λ b. 1024 ≤ deque_capacity b) bs → concat (rows_of bs) ≡ [] →
+    AllByRecursion (λ b. 1024 ≤ deque_capacity b) cs × IsFilled (rows_of cs)
     × (concat (rows_of cs) ≡ [])
 more_filled {Z} bs b cs e n m h z =
     let i = empty_more bs b n z in
     subst (λ (l : List (VecDeque ℕ Z)).
-    AllByRecursion (λ b. 2048 ≤ deque_capacity b) l × IsFilled (rows_of l)
+    AllByRecursion (λ b. 1024 ≤ deque_capacity b) l × IsFilled (rows_of l)
     × (concat (rows_of l) ≡ [])) (sym e)
-    (all_push (λ b. 2048 ≤ deque_capacity b) bs b m h, i.0, i.1)
+    (all_push (λ b. 1024 ≤ deque_capacity b) bs b m h, i.0, i.1)

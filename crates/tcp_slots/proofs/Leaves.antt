@@ -2,41 +2,41 @@
 -- rank.
 use Rattle.std.proofs.Common.{◌≡◌, ◌⊎◌, ℕ, zero, suc, ◌+◌, ◌-◌, ◌*◌, ◌/◌, ◌<◌, ◌≤◌, List, get_or, refl, sym, ap, ◌∙◌, subst, arith, inl, inr}
 use Rattle.std.proofs.lemmas.Bool.{cases_eq, cases_lt, cases_order}
-use Rattle.tcp_slots.specs.Ranks.{IsTree, IsFirst}
+use Rattle.tcp_slots.specs.Ranks.{IsTree, IsUniqueLeast}
 
 -- the node that is `t` steps above a node
-unfoldable pub up : ℕ → ℕ → ℕ
-up zero j = j
-up (suc t) j = up t (j / 2)
+unfoldable pub ancestor : (steps node : ℕ) → ℕ
+ancestor zero j = j
+ancestor (suc t) j = ancestor t (j / 2)
 
 -- a node is above another one, or is the same
-pub record IsAbove (i j : ℕ) : Type 0 where
+pub record IsAbove (upper lower : ℕ) : Type 0 where
   pub steps : ℕ
-  pub is : up steps j ≡ i
+  pub is : ancestor steps lower ≡ upper
 
-up_le : (t j : ℕ) → up t j ≤ j
-unfolding up
+up_le : (t j : ℕ) → ancestor t j ≤ j
+unfolding ancestor
 up_le zero j = omega arith
 up_le (suc t) j = let h = up_le t (j / 2) in omega (arith, h)
 
-up_more : (t j : ℕ) → up (suc t) j ≡ up t j / 2
-unfolding up
+up_more : (t j : ℕ) → ancestor (suc t) j ≡ ancestor t j / 2
+unfolding ancestor
 up_more zero j = refl
 up_more (suc t) j = up_more t (j / 2)
 
-up_sum : (t k j : ℕ) → up (t + k) j ≡ up k (up t j)
-unfolding up
-up_sum zero k j = let none : 0 + k ≡ k = omega arith in ap (λ (n : ℕ). up n j) none
+up_sum : (t k j : ℕ) → ancestor (t + k) j ≡ ancestor k (ancestor t j)
+unfolding ancestor
+up_sum zero k j = let none : 0 + k ≡ k = omega arith in ap (λ (n : ℕ). ancestor n j) none
 up_sum (suc t) k j =
     let more : suc t + k ≡ suc (t + k) = omega arith in
-    ap (λ (n : ℕ). up n j) more ∙ up_sum t k (j / 2)
+    ap (λ (n : ℕ). ancestor n j) more ∙ up_sum t k (j / 2)
 
 above_itself : (i j : ℕ) → j ≡ i → IsAbove i j
-unfolding up
+unfolding ancestor
 above_itself i j e = record { steps = 0; is = e }
 
 above_more : (i j : ℕ) → IsAbove i (j / 2) → IsAbove i j
-unfolding up
+unfolding ancestor
 above_more i j h = record { steps = suc h.steps; is = h.is }
 
 above_child : (i c j : ℕ) → c / 2 ≡ i → IsAbove c j → IsAbove i j
@@ -57,8 +57,9 @@ halves i j e =
     elim (cases_eq j (2 * i)) [ inl o ↦ inl o | inr ne ↦ inr (omega (arith, e, ne)) ]
 
 -- a node below another one is below one of its children, or is the same
-below_child : (t i j : ℕ) → up t j ≡ i → (j ≡ i → ⊥) → IsAbove (2 * i) j ⊎ IsAbove (2 * i + 1) j
-unfolding up
+below_child : (t i j : ℕ) → ancestor t j ≡ i → (j ≡ i → ⊥) →
+    IsAbove (2 * i) j ⊎ IsAbove (2 * i + 1) j
+unfolding ancestor
 below_child zero i j h ne = absurd (ne h)
 below_child (suc t) i j h ne =
     elim (cases_eq (j / 2) i) [
@@ -73,9 +74,10 @@ below_child (suc t) i j h ne =
     ]
 
 -- a node has no greater rank than the nodes below it
-least_by : (slots : ℕ) (nodes : List ℕ) → IsTree slots nodes → (t i j : ℕ) → up t j ≡ i → 1 ≤ i →
+least_by : (slots : ℕ) (nodes : List ℕ) → IsTree slots nodes → (t i j : ℕ) → ancestor t j ≡ i →
+    1 ≤ i →
     j < 2 * slots → get_or nodes i 0 ≤ get_or nodes j 0
-unfolding up
+unfolding ancestor
 least_by slots nodes h zero i j e some l = subst (λ (k : ℕ). get_or nodes k 0 ≤ get_or nodes j 0) e
     (omega arith)
 least_by slots nodes h (suc t) i j e some l =
@@ -97,15 +99,15 @@ root_least slots nodes h j some l =
     least_by slots nodes h a.steps 1 j a.is (omega arith) l
 
 -- a leaf below a node that has the same rank
-record IsLeafOf (slots : ℕ) (nodes : List ℕ) (i : ℕ) : Type 0 where
+record HasEqualLeaf (slots : ℕ) (nodes : List ℕ) (node : ℕ) : Type 0 where
   index : ℕ
-  above : IsAbove i index
+  above : IsAbove node index
   first : slots ≤ index
   last : index < 2 * slots
-  same : get_or nodes index 0 ≡ get_or nodes i 0
+  same : get_or nodes index 0 ≡ get_or nodes node 0
 
 leaf_of_child : (slots : ℕ) (nodes : List ℕ) (i c : ℕ) → c / 2 ≡ i →
-    get_or nodes c 0 ≡ get_or nodes i 0 → IsLeafOf slots nodes c → IsLeafOf slots nodes i
+    get_or nodes c 0 ≡ get_or nodes i 0 → HasEqualLeaf slots nodes c → HasEqualLeaf slots nodes i
 leaf_of_child slots nodes i c e same h = record {
   index = h.index;
   above = above_child i c h.index e h.above;
@@ -115,7 +117,7 @@ leaf_of_child slots nodes i c e same h = record {
 }
 
 leaf_of : (slots : ℕ) (nodes : List ℕ) → IsTree slots nodes → (n i : ℕ) → 2 * slots ≤ n + i →
-    1 ≤ i → i < 2 * slots → IsLeafOf slots nodes i
+    1 ≤ i → i < 2 * slots → HasEqualLeaf slots nodes i
 leaf_of slots nodes h zero i l some within = absurd (omega (arith, l, within))
 leaf_of slots nodes h (suc n) i l some within =
     elim (cases_lt i slots) [
@@ -140,34 +142,34 @@ leaf_of slots nodes h (suc n) i l some within =
     ]
 
 -- no node is below both children of a node
-no_child_both : (i j t s : ℕ) → 1 ≤ i → up t j ≡ 2 * i → up s j ≡ 2 * i + 1 → ⊥
-unfolding up
+no_child_both : (i j t s : ℕ) → 1 ≤ i → ancestor t j ≡ 2 * i → ancestor s j ≡ 2 * i + 1 → ⊥
+unfolding ancestor
 no_child_both i j t s some left right =
     elim (cases_order t s) [
-      | inl e ↦ (let both = ap (λ (k : ℕ). up k j) e in omega (arith, both, left, right))
+      | inl e ↦ (let both = ap (λ (k : ℕ). ancestor k j) e in omega (arith, both, left, right))
       | inr (inl l) ↦ (let k : ℕ = s - t in
           let is : t + k ≡ s = omega (arith, l) in
-          let low = up_le k (up t j) in
+          let low = up_le k (ancestor t j) in
           let at = up_sum t k j in
-          let own = ap (λ (n : ℕ). up n j) is in
+          let own = ap (λ (n : ℕ). ancestor n j) is in
           omega (arith, low, at, own, left, right))
       | inr (inr l) ↦ (let k : ℕ = t - s - 1 in
           let is : s + suc k ≡ t = omega (arith, l) in
-          let low = up_le k (up s j / 2) in
+          let low = up_le k (ancestor s j / 2) in
           let at = up_sum s (suc k) j in
-          let own = ap (λ (n : ℕ). up n j) is in
+          let own = ap (λ (n : ℕ). ancestor n j) is in
           omega (arith, low, at, own, left, right, some))
     ]
 
 -- a node has the least rank, and each leaf that isn't below it has a greater one
-pub record Leads (slots : ℕ) (nodes : List ℕ) (node : ℕ) : Type 0 where
+pub record LeastLeavesAreBelow (slots : ℕ) (nodes : List ℕ) (node : ℕ) : Type 0 where
   pub some : 1 ≤ node
   pub within : node < 2 * slots
   pub least : get_or nodes node 0 ≡ get_or nodes 1 0
   pub others : (j : ℕ) → slots ≤ j → j < 2 * slots →
       IsAbove node j ⊎ (get_or nodes 1 0 < get_or nodes j 0)
 
-pub root_leads : (slots : ℕ) (nodes : List ℕ) → 1 ≤ slots → Leads slots nodes 1
+pub root_leads : (slots : ℕ) (nodes : List ℕ) → 1 ≤ slots → LeastLeavesAreBelow slots nodes 1
 root_leads slots nodes some = record {
   some = omega arith;
   within = omega (arith, some);
@@ -197,8 +199,9 @@ left_others slots nodes node j h low first last (inl a) =
 left_others slots nodes node j h low first last (inr l) = inr l
 
 pub left_leads : (slots : ℕ) (nodes : List ℕ) (node : ℕ) → IsTree slots nodes →
-    Leads slots nodes node → node < slots →
-    get_or nodes (2 * node) 0 < get_or nodes (2 * node + 1) 0 → Leads slots nodes (2 * node)
+    LeastLeavesAreBelow slots nodes node → node < slots →
+    get_or nodes (2 * node) 0 < get_or nodes (2 * node + 1) 0 →
+    LeastLeavesAreBelow slots nodes (2 * node)
 left_leads slots nodes node h a low less =
     let own = h.least node a.some low in
     let is : get_or nodes (2 * node) 0 ≡ get_or nodes 1 0 = omega (arith, own, less, a.least) in
@@ -215,8 +218,9 @@ left_leads slots nodes node h a low less =
     }
 
 pub right_leads : (slots : ℕ) (nodes : List ℕ) (node : ℕ) → IsTree slots nodes →
-    Leads slots nodes node → node < slots →
-    get_or nodes (2 * node + 1) 0 < get_or nodes (2 * node) 0 → Leads slots nodes (2 * node + 1)
+    LeastLeavesAreBelow slots nodes node → node < slots →
+    get_or nodes (2 * node + 1) 0 < get_or nodes (2 * node) 0 →
+    LeastLeavesAreBelow slots nodes (2 * node + 1)
 right_leads slots nodes node h a low less =
     let own = h.least node a.some low in
     let is : get_or nodes (2 * node + 1) 0 ≡ get_or nodes 1 0 = omega (arith, own, less, a.least) in
@@ -233,15 +237,16 @@ right_leads slots nodes node h a low less =
     }
 
 leaf_only : (slots node j : ℕ) → slots ≤ node → j < 2 * slots → (j ≡ node → ⊥) → (t : ℕ) →
-    up t j ≡ node → ⊥
-unfolding up
+    ancestor t j ≡ node → ⊥
+unfolding ancestor
 leaf_only slots node j high last other zero e = other e
 leaf_only slots node j high last other (suc t) e =
     let low = up_le t (j / 2) in omega (arith, low, e, high, last)
 
 -- a leaf that leads is that of the first slot
-pub leaf_first : (slots : ℕ) (nodes : List ℕ) (node slot : ℕ) → Leads slots nodes node →
-    slots + slot ≡ node → IsFirst slots nodes slot
+pub leaf_first : (slots : ℕ) (nodes : List ℕ) (node slot : ℕ) →
+    LeastLeavesAreBelow slots nodes node →
+    slots + slot ≡ node → IsUniqueLeast slots nodes slot
 leaf_first slots nodes node slot a e = record {
   within = omega (arith, a.within, e);
   least = λ other within apart.
@@ -255,7 +260,7 @@ leaf_first slots nodes node slot a e = record {
 
 -- a leaf of the least rank is the first slot's, if there is a first slot
 first_leaf : (slots : ℕ) (nodes : List ℕ) (slot index : ℕ) → IsTree slots nodes →
-    IsFirst slots nodes slot → slots ≤ index → index < 2 * slots →
+    IsUniqueLeast slots nodes slot → slots ≤ index → index < 2 * slots →
     get_or nodes index 0 ≡ get_or nodes 1 0 → index ≡ slots + slot
 first_leaf slots nodes slot index h f first last same =
     elim (cases_eq index (slots + slot)) [
@@ -271,9 +276,9 @@ first_leaf slots nodes slot index h f first last same =
 
 -- no slot is the first if both children of a node that leads have the same rank
 pub none_first : (slots : ℕ) (nodes : List ℕ) (node : ℕ) → IsTree slots nodes →
-    Leads slots nodes node → node < slots →
+    LeastLeavesAreBelow slots nodes node → node < slots →
     get_or nodes (2 * node) 0 ≡ get_or nodes (2 * node + 1) 0 → (slot : ℕ) →
-    IsFirst slots nodes slot → ⊥
+    IsUniqueLeast slots nodes slot → ⊥
 none_first slots nodes node h a low same slot f =
     let own = h.least node a.some low in
     let l = leaf_of slots nodes h (2 * slots) (2 * node) (omega arith) (omega (arith, a.some))
@@ -285,5 +290,5 @@ none_first slots nodes node h a low same slot f =
     let right = first_leaf slots nodes slot r.index h f r.first r.last
     (omega (arith, r.same, own, same, a.least)) in
     no_child_both node (slots + slot) l.above.steps r.above.steps a.some
-    (ap (λ (k : ℕ). up l.above.steps k) (sym left) ∙ l.above.is)
-    (ap (λ (k : ℕ). up r.above.steps k) (sym right) ∙ r.above.is)
+    (ap (λ (k : ℕ). ancestor l.above.steps k) (sym left) ∙ l.above.is)
+    (ap (λ (k : ℕ). ancestor r.above.steps k) (sym right) ∙ r.above.is)

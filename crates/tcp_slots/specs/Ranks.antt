@@ -8,15 +8,15 @@ pub record IsTree (slots : ℕ) (nodes : List ℕ) : Type 0 where
       get_or nodes i 0 ≡ min (get_or nodes (2 * i) 0) (get_or nodes (2 * i + 1) 0)
 
 -- the rank of a slot
-abbrev pub rank_at : ℕ → List ℕ → ℕ → ℕ
+abbrev pub rank_at : (slots : ℕ) (nodes : List ℕ) (slot : ℕ) → ℕ
 rank_at slots nodes slot = get_or nodes (slots + slot) 0
 
 -- the leaves are the same
-abbrev pub AreLeaves : ℕ → List ℕ → List ℕ → Type 0
-AreLeaves slots new old = (i : ℕ) → slots ≤ i → get_or new i 0 ≡ get_or old i 0
+abbrev pub HaveSameLeaves : (slots : ℕ) (new old : List ℕ) → Type 0
+HaveSameLeaves slots new old = (i : ℕ) → slots ≤ i → get_or new i 0 ≡ get_or old i 0
 
 -- the rank of a slot is less than that of each other slot
-pub record IsFirst (slots : ℕ) (nodes : List ℕ) (slot : ℕ) : Type 0 where
+pub record IsUniqueLeast (slots : ℕ) (nodes : List ℕ) (slot : ℕ) : Type 0 where
   pub within : slot < slots
   pub least : (other : ℕ) → other < slots → (other ≡ slot → ⊥) →
       rank_at slots nodes slot < rank_at slots nodes other

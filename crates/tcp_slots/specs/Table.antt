@@ -11,11 +11,12 @@ pub record TableView (K : Type 0) : Type 0 where
   pub most : ℕ
 
 -- the last key of each of these slots
-unfoldable pub keys_of : {K : Type 0} → List (Option K) → List ℕ → List K
+unfoldable pub keys_of : {K : Type 0} (last : List (Option K)) (numbers : List ℕ) → List K
 keys_of last [] = []
 keys_of last (slot ∷ slots) = option_to_list (get_or last slot None) ++ keys_of last slots
 
-abbrev pub table_of : {K : Type 0} → List (Option K) → OrderView → ℕ → TableView K
+abbrev pub table_of : {K : Type 0} (last : List (Option K)) (order : OrderView) (most : ℕ) →
+    TableView K
 table_of last order most =
     record { keys = keys_of last order.items; slots = order.items; most = most }
 

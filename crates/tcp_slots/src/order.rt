@@ -1,7 +1,7 @@
 //! Slots in an order, in memory that is allocated once. When a slot comes or goes, few others are
 //! moved.
 
-ghost use Rattle.std.specs.Prelude.{◌≡◌, ◌≤◌, ◌<◌, ◌*◌, ◌^◌, suc, [], IfOk, get_or, length};
+ghost use Rattle.std.specs.Prelude.{◌≡◌, ◌≤◌, ◌<◌, ◌*◌, ◌^◌, ◌++◌, ◌∷◌, suc, [], IfOk, get_or, length};
 ghost use Rattle.std.specs.List.{insert, remove, concat};
 ghost use Rattle.tcp_slots.specs.Order.{rows_of, HaveMemory, HasGap, IsFilled};
 
@@ -10,7 +10,7 @@ use std::collections::VecDeque;
 use std::marker::Model;
 
 /// How many slots a block holds.
-const BLOCK: usize = 2048;
+const BLOCK: usize = 1024;
 
 /// Slots in an order. Each block is full, apart from the last one that isn't empty.
 #[derive(Drop)]
@@ -20,13 +20,13 @@ pub struct Order {
 }
 
 impl Model for Order {
-    ghost use Rattle.tcp_slots.specs.Order.{OrderView, order_of, IsKept};
+    ghost use Rattle.tcp_slots.specs.Order.{OrderView, order_of, IsSoundOrder};
 
     ghost Value = { OrderView };
 
     ghost view = { order_of };
 
-    ghost invariant = { IsKept };
+    ghost invariant = { IsSoundOrder };
 }
 
 impl Order {
@@ -69,8 +69,19 @@ impl Order {
         ensures items { self.new.items ≡ insert self.old.items index slot }
         ensures most { self.new.most ≡ self.old.most }
     {
-        put_in(&mut self.blocks, self.len, index, slot);
+        insert_in_blocks(&mut self.blocks, self.len, index, slot);
         self.len += 1;
+    }
+
+    /// Removes the last slot, and answers it.
+    pub fn pop(&mut self) -> u32
+        requires { 0 < length self.old.items }
+        ensures items { self.old.items ≡ self.new.items ++ result ∷ [] }
+        ensures most { self.new.most ≡ self.old.most }
+    {
+        let slot = remove_last_of_blocks(&mut self.blocks, self.len);
+        self.len -= 1;
+        slot
     }
 
     /// Removes the slot at an index. The slots after it move one place back. Answers the slot.
@@ -81,7 +92,7 @@ impl Order {
         ensures most { self.new.most ≡ self.old.most }
     {
         let slot = self.at(index);
-        take_out(&mut self.blocks, self.len, index);
+        remove_from_blocks(&mut self.blocks, self.len, index);
         self.len -= 1;
         slot
     }
@@ -89,25 +100,25 @@ impl Order {
 
 /// Inserts a slot at an index. The free place after the last slot is moved to the block of that
 /// place.
-fn put_in(blocks: &mut [VecDeque<u32>], len: usize, index: usize, slot: u32)
+fn insert_in_blocks(blocks: &mut [VecDeque<u32>], len: usize, index: usize, slot: u32)
     requires memory { HaveMemory blocks.old }
     requires filled { IsFilled (rows_of blocks.old) }
     requires len { len ≡ length (concat (rows_of blocks.old)) }
     requires index { index ≤ len }
-    requires some { len < 2048 * length blocks.old }
+    requires some { len < 1024 * length blocks.old }
     ensures memory { HaveMemory blocks.new }
     ensures filled { IsFilled (rows_of blocks.new) }
     ensures items { concat (rows_of blocks.new) ≡ insert (concat (rows_of blocks.old)) index slot }
     ensures blocks { length blocks.new ≡ length blocks.old }
 {
     let block = index / BLOCK;
-    open_gap(blocks, len / BLOCK, block);
+    move_gap_earlier(blocks, len / BLOCK, block);
     // It can't fail: the block has a free place.
     let _inserted = blocks[block].insert(index % BLOCK, slot);
 }
 
 /// Removes the slot at an index. The place that becomes free is moved to the end.
-fn take_out(blocks: &mut [VecDeque<u32>], len: usize, index: usize)
+fn remove_from_blocks(blocks: &mut [VecDeque<u32>], len: usize, index: usize)
     requires memory { HaveMemory blocks.old }
     requires filled { IsFilled (rows_of blocks.old) }
     requires len { len ≡ length (concat (rows_of blocks.old)) }
@@ -119,11 +130,29 @@ fn take_out(blocks: &mut [VecDeque<u32>], len: usize, index: usize)
 {
     let block = index / BLOCK;
     let _removed = blocks[block].remove(index % BLOCK);
-    close_gap(blocks, block, (len - 1) / BLOCK);
+    move_gap_later(blocks, block, (len - 1) / BLOCK);
+}
+
+/// Removes the last slot, and answers it.
+fn remove_last_of_blocks(blocks: &mut [VecDeque<u32>], len: usize) -> u32
+    requires memory { HaveMemory blocks.old }
+    requires filled { IsFilled (rows_of blocks.old) }
+    requires len { len ≡ length (concat (rows_of blocks.old)) }
+    requires some { 0 < len }
+    ensures memory { HaveMemory blocks.new }
+    ensures filled { IsFilled (rows_of blocks.new) }
+    ensures items { concat (rows_of blocks.old) ≡ concat (rows_of blocks.new) ++ result ∷ [] }
+    ensures blocks { length blocks.new ≡ length blocks.old }
+{
+    let block = (len - 1) / BLOCK;
+    if let Some(slot) = blocks[block].pop_back() {
+        return slot;
+    }
+    unreachable!()
 }
 
 /// Moves a free place from one block to an earlier one.
-fn open_gap(blocks: &mut [VecDeque<u32>], from: usize, to: usize)
+fn move_gap_earlier(blocks: &mut [VecDeque<u32>], from: usize, to: usize)
     requires memory { HaveMemory blocks.old }
     requires gap { HasGap from (rows_of blocks.old) }
     requires order { to ≤ from }
@@ -135,16 +164,16 @@ fn open_gap(blocks: &mut [VecDeque<u32>], from: usize, to: usize)
     let mut free = from;
     while free > to {
         free -= 1;
-        pass_on(blocks, free);
+        move_last_to_next(blocks, free);
     }
 }
 
 /// Moves a free place from one block to a later one. The blocks before that one stay full.
-fn close_gap(blocks: &mut [VecDeque<u32>], from: usize, to: usize)
+fn move_gap_later(blocks: &mut [VecDeque<u32>], from: usize, to: usize)
     requires memory { HaveMemory blocks.old }
     requires gap { HasGap from (rows_of blocks.old) }
     requires order { from ≤ to }
-    requires many { 2048 * to ≤ length (concat (rows_of blocks.old)) }
+    requires many { 1024 * to ≤ length (concat (rows_of blocks.old)) }
     ensures memory { HaveMemory blocks.new }
     ensures gap { HasGap to (rows_of blocks.new) }
     ensures items { concat (rows_of blocks.new) ≡ concat (rows_of blocks.old) }
@@ -152,13 +181,13 @@ fn close_gap(blocks: &mut [VecDeque<u32>], from: usize, to: usize)
 {
     let mut free = from;
     while free < to {
-        pass_back(blocks, free);
+        take_first_of_next(blocks, free);
         free += 1;
     }
 }
 
 /// Moves the last slot of a block to the front of the next block, which has a free place.
-fn pass_on(blocks: &mut [VecDeque<u32>], block: usize)
+fn move_last_to_next(blocks: &mut [VecDeque<u32>], block: usize)
     requires memory { HaveMemory blocks.old }
     requires gap { HasGap (suc block) (rows_of blocks.old) }
     ensures memory { HaveMemory blocks.new }
@@ -172,10 +201,10 @@ fn pass_on(blocks: &mut [VecDeque<u32>], block: usize)
 }
 
 /// Moves the first slot of the next block to the end of a block that has a free place.
-fn pass_back(blocks: &mut [VecDeque<u32>], block: usize)
+fn take_first_of_next(blocks: &mut [VecDeque<u32>], block: usize)
     requires memory { HaveMemory blocks.old }
     requires gap { HasGap block (rows_of blocks.old) }
-    requires many { 2048 * suc block ≤ length (concat (rows_of blocks.old)) }
+    requires many { 1024 * suc block ≤ length (concat (rows_of blocks.old)) }
     ensures memory { HaveMemory blocks.new }
     ensures gap { HasGap (suc block) (rows_of blocks.new) }
     ensures items { concat (rows_of blocks.new) ≡ concat (rows_of blocks.old) }

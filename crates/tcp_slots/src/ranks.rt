@@ -3,7 +3,7 @@
 
 ghost use Rattle.std.specs.Prelude.{◌≡◌, ◌≤◌, ◌<◌, ◌*◌, ℕ, length, set, cond, nat_eq, get_or, IfOk, IfSome, None};
 ghost use Rattle.std.proofs.Props.{props};
-ghost use Rattle.tcp_slots.specs.Ranks.{IsTree, IsFirst, AreLeaves, rank_at};
+ghost use Rattle.tcp_slots.specs.Ranks.{IsTree, IsUniqueLeast, HaveSameLeaves, rank_at};
 
 use std::alloc::{AllocError, Global};
 
@@ -42,9 +42,9 @@ impl Ranks {
         if (slot as usize) < self.slots {
             let leaf = self.slots + slot as usize;
             if rank < self.nodes[leaf] {
-                lower(&mut self.nodes, self.slots, leaf, rank);
+                lower_leaf(&mut self.nodes, self.slots, leaf, rank);
             } else {
-                put(&mut self.nodes, self.slots, leaf, rank);
+                set_leaf(&mut self.nodes, self.slots, leaf, rank);
             }
         }
     }
@@ -58,10 +58,11 @@ impl Ranks {
     }
 
     /// The slot whose rank is less than that of each other slot. None if there is no such slot.
-    pub fn first(&self) -> Option<u32>
-        ensures some { IfSome result (λ slot. IsFirst self.now.slots self.now.nodes.items slot) }
+    pub fn unique_least(&self) -> Option<u32>
+        ensures some { IfSome result (λ slot.
+            IsUniqueLeast self.now.slots self.now.nodes.items slot) }
         ensures none { (result ≡ None) → (slot : ℕ)
-            → IsFirst self.now.slots self.now.nodes.items slot → ⊥ }
+            → IsUniqueLeast self.now.slots self.now.nodes.items slot → ⊥ }
     {
         let mut node = 1;
         while node < self.slots {
@@ -77,12 +78,12 @@ impl Ranks {
 }
 
 /// Sets the rank of a leaf. Each node above it gets the lesser rank of its two children.
-fn put(nodes: &mut [u128], slots: usize, leaf: usize, rank: u128)
+fn set_leaf(nodes: &mut [u128], slots: usize, leaf: usize, rank: u128)
     requires tree { IsTree slots nodes.old }
     requires leaf { (slots ≤ leaf) × (leaf < 2 * slots) }
     requires most { slots ≤ 131072 }
     ensures tree { IsTree slots nodes.new }
-    ensures leaves { AreLeaves slots nodes.new (set nodes.old leaf rank) }
+    ensures leaves { HaveSameLeaves slots nodes.new (set nodes.old leaf rank) }
 {
     nodes[leaf] = rank;
     let mut node = leaf;
@@ -99,13 +100,13 @@ fn put(nodes: &mut [u128], slots: usize, leaf: usize, rank: u128)
 }
 
 /// Gives a leaf a lesser rank. Each node above it that has a greater one gets it too.
-fn lower(nodes: &mut [u128], slots: usize, leaf: usize, rank: u128)
+fn lower_leaf(nodes: &mut [u128], slots: usize, leaf: usize, rank: u128)
     requires tree { IsTree slots nodes.old }
     requires leaf { (slots ≤ leaf) × (leaf < 2 * slots) }
     requires most { slots ≤ 131072 }
     requires less { rank ≤ get_or nodes.old leaf 0 }
     ensures tree { IsTree slots nodes.new }
-    ensures leaves { AreLeaves slots nodes.new (set nodes.old leaf rank) }
+    ensures leaves { HaveSameLeaves slots nodes.new (set nodes.old leaf rank) }
 {
     nodes[leaf] = rank;
     let mut node = leaf / 2;

@@ -115,14 +115,14 @@ impl<K: Ord + Copy> SlotTable<K> {
         ensures some { IfSome result (λ index. (index < length self.now.slots)
             × (get_or self.now.slots index 0 ≡ slot)) }
     {
-        match self.index_of_last(slot) {
+        match self.index_by_last_key(slot) {
             Some(index) => Some(index),
-            None => self.walk(slot),
+            None => self.index_by_walk(slot),
         }
     }
 
     /// The index of the last key of a slot, if the key still has this slot.
-    fn index_of_last(&self, slot: u32) -> Option<usize>
+    fn index_by_last_key(&self, slot: u32) -> Option<usize>
         ensures { IfSome result (λ index. (index < length self.now.slots)
             × (get_or self.now.slots index 0 ≡ slot)) }
     {
@@ -139,7 +139,7 @@ impl<K: Ord + Copy> SlotTable<K> {
     }
 
     /// The index of the key that has a slot, found by looking at each index.
-    fn walk(&self, slot: u32) -> Option<usize>
+    fn index_by_walk(&self, slot: u32) -> Option<usize>
         ensures none { (result ≡ None) → (index : ℕ) → index < length self.now.slots
             → get_or self.now.slots index 0 ≡ slot → ⊥ }
         ensures some { IfSome result (λ index. (index < length self.now.slots)

@@ -5,7 +5,7 @@ use Rattle.std.proofs.lemmas.Bool.{cases_Bool, cond-true, cond-false, eqb-true, 
 use Rattle.std.proofs.lemmas.Map.Steps.{length-le_from_distinct_below}
 use Rattle.tcp_flow.specs.declared.flow.CloseCause.{CloseCause}
 use Rattle.tcp_flow.specs.declared.flow.CloseCause.TheVariants.{Fin, Reset, Syn, Fault, Gap, Room, End}
-use Rattle.tcp_streams.specs.Lives.{without, begun, ended, most_ids, AreIds}
+use Rattle.tcp_streams.specs.Lives.{without, with_begun, with_closed, most_ids, AreIds}
 
 eqb_comm_false : (m n : ℕ) → eqb m n ≡ false → eqb n m ≡ false
 eqb_comm_false m n h = ne_eqb n m (λ e. absurd
@@ -89,8 +89,8 @@ again_ids id xs l h = (
   distinct_push (without id xs) id (distinct_without id xs h.1) (none_left id xs h.1),
 )
 
-pub begun_ids : (id : ℕ) (xs : List ℕ) → AreIds xs → AreIds (begun id xs)
-unfolding begun
+pub begun_ids : (id : ℕ) (xs : List ℕ) → AreIds xs → AreIds (with_begun id xs)
+unfolding with_begun
 begun_ids id xs h =
     elim (cases_Bool (nat_lt id most_ids)) [
       | inl e ↦ subst AreIds (sym (cond-true (nat_lt id most_ids) (without id xs ++ id ∷ []) xs e))
@@ -118,7 +118,7 @@ none_ids = (tt, tt)
 
 -- the same after a close
 pub ended_ids : (id : ℕ) (cause : CloseCause) (live : List ℕ) → AreIds live →
-    AreIds (ended id cause live)
+    AreIds (with_closed id cause live)
 ended_ids id Gap live h = h
 ended_ids id End live h = h
 ended_ids id Fin live h = without_ids id live h

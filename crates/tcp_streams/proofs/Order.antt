@@ -3,13 +3,13 @@ use Rattle.std.proofs.Common.{◌≡◌, ℕ, zero, suc, ◌+◌, ◌<◌, ◌�
 use Rattle.std.specs.Option.{option_map}
 use Rattle.std.specs.List.{remove}
 use Rattle.tcp_flow.specs.Flow.{Event}
-use Rattle.tcp_streams.specs.Lives.{index_of, without, behind, lives_from}
+use Rattle.tcp_streams.specs.Lives.{index_of, without, lives_behind, lives_from}
 
 pub lives_more : (live : List ℕ) (es : List Event) (e : Event) →
-    lives_from live (es ++ e ∷ []) ≡ behind (lives_from live es) e
+    lives_from live (es ++ e ∷ []) ≡ lives_behind (lives_from live es) e
 unfolding lives_from
 lives_more live [] e = refl
-lives_more live (x ∷ es) e = lives_more (behind live x) es e
+lives_more live (x ∷ es) e = lives_more (lives_behind live x) es e
 
 with_case : (n x : ℕ) (xs : List ℕ) (b : Bool) (r : Option ℕ) →
     IfSome r (λ i. remove xs i ≡ without n xs) →

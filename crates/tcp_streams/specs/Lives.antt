@@ -11,61 +11,61 @@ use Rattle.tcp_flow.specs.declared.flow.CloseCause.TheVariants.{Fin, Reset, Syn,
 use Rattle.tcp_flow.specs.Flow.{Event, Opens, Begins, Delivers, Closes, OfCapture}
 
 -- the index of the first element that is this number
-unfoldable pub index_of : ℕ → List ℕ → Option ℕ
-index_of n [] = None
-index_of n (x ∷ xs) = cond (nat_eq x n) (Some 0) (option_map suc (index_of n xs))
+unfoldable pub index_of : (number : ℕ) (numbers : List ℕ) → Option ℕ
+index_of number [] = None
+index_of number (x ∷ xs) = cond (nat_eq x number) (Some 0) (option_map suc (index_of number xs))
 
 -- the list without the first element that is this number
-unfoldable pub without : ℕ → List ℕ → List ℕ
-without n [] = []
-without n (x ∷ xs) = cond (nat_eq x n) xs (x ∷ without n xs)
+unfoldable pub without : (number : ℕ) (numbers : List ℕ) → List ℕ
+without number [] = []
+without number (x ∷ xs) = cond (nat_eq x number) xs (x ∷ without number xs)
 
 -- the ids of flows are below this: two for each of 65,536 connections
 abbrev pub most_ids : ℕ
 most_ids = 131072
 
 -- each number is the id of a flow, and no number comes twice
-abbrev pub AreIds : List ℕ → Type 0
+abbrev pub AreIds : (ids : List ℕ) → Type 0
 AreIds ids = AllByRecursion (λ id. id < most_ids) ids × IsDistinct eqb ids
 
 -- the flows of the streams after a stream has begun: its flow comes last, and nowhere else. A
 -- number that is no id changes nothing
-unfoldable pub begun : ℕ → List ℕ → List ℕ
-begun id live = cond (nat_lt id most_ids) (without id live ++ id ∷ []) live
+unfoldable pub with_begun : (id : ℕ) (live : List ℕ) → List ℕ
+with_begun id live = cond (nat_lt id most_ids) (without id live ++ id ∷ []) live
 
 -- the flows of the streams after a stream was closed. If a gap closed it, its flow keeps its place,
 -- since the flow may wait for its next stream and hold octets of it. If the end of the capture
 -- closed it, its flow keeps its place too, so that the order stays while all streams are closed
-abbrev pub ended : ℕ → CloseCause → List ℕ → List ℕ
-ended id Gap live = live
-ended id Fin live = without id live
-ended id Reset live = without id live
-ended id Syn live = without id live
-ended id Fault live = without id live
-ended id Room live = without id live
-ended id End live = live
+abbrev pub with_closed : (id : ℕ) (close_cause : CloseCause) (live : List ℕ) → List ℕ
+with_closed id Gap live = live
+with_closed id Fin live = without id live
+with_closed id Reset live = without id live
+with_closed id Syn live = without id live
+with_closed id Fault live = without id live
+with_closed id Room live = without id live
+with_closed id End live = live
 
 -- the flows of the streams after one more event
-unfoldable pub behind : List ℕ → Event → List ℕ
-behind live (Opens id endpoints) = live
-behind live (Begins id start) = begun id live
-behind live (Delivers id octets) = live
-behind live (Closes id cause) = ended id cause live
-behind live (OfCapture event) = live
+unfoldable pub lives_behind : (live : List ℕ) (event : Event) → List ℕ
+lives_behind live (Opens id endpoints) = live
+lives_behind live (Begins id start) = with_begun id live
+lives_behind live (Delivers id octets) = live
+lives_behind live (Closes id cause) = with_closed id cause live
+lives_behind live (OfCapture event) = live
 
 -- the flows of the streams after all events, if these were the flows before them
-unfoldable pub lives_from : List ℕ → List Event → List ℕ
+unfoldable pub lives_from : (live : List ℕ) (events : List Event) → List ℕ
 lives_from live [] = live
-lives_from live (e ∷ es) = lives_from (behind live e) es
+lives_from live (e ∷ es) = lives_from (lives_behind live e) es
 
 -- the flows whose last streams live after all events, or were closed by a gap or by the end of the
 -- capture, in the order in which these streams began; this is the order of their numbers
-abbrev pub lives : List Event → List ℕ
+abbrev pub lives : (events : List Event) → List ℕ
 lives events = lives_from [] events
 
 -- the side of the first of these flows that belongs to this slot; the side of the lesser endpoint
 -- if none does
-unfoldable pub elder_side : ℕ → List ℕ → Side
+unfoldable pub elder_side : (slot : ℕ) (numbers : List ℕ) → Side
 elder_side slot [] = FromLesser
 elder_side slot (id ∷ ids) =
     cond (nat_eq id (flow_id slot FromLesser)) FromLesser

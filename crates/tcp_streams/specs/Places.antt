@@ -6,17 +6,17 @@ use Rattle.tcp_streams.specs.Lives.{most_ids}
 use Rattle.tcp_streams.specs.Stamped.{AreStamped}
 
 -- whether a place has an id
-abbrev pub is_id : ℕ → Bool
-is_id n = nat_lt n most_ids
+abbrev pub is_id : (number : ℕ) → Bool
+is_id number = nat_lt number most_ids
 
 -- the ids, in the order of their places
-abbrev pub ids_of : List ℕ → List ℕ
+abbrev pub ids_of : (places : List ℕ) → List ℕ
 ids_of places = filter is_id places
 
 -- the place at which an id stands
-unfoldable pub place_of : ℕ → List ℕ → Option ℕ
-place_of n [] = None
-place_of n (x ∷ xs) = cond (is_id x && nat_eq x n) (Some 0) (option_map suc (place_of n xs))
+unfoldable pub place_of : (id : ℕ) (ids : List ℕ) → Option ℕ
+place_of id [] = None
+place_of id (x ∷ xs) = cond (is_id x && nat_eq x id) (Some 0) (option_map suc (place_of id xs))
 
 -- the ids differ, and have stamps; `count` of the first `front` places have an id, and each place
 -- after them has one

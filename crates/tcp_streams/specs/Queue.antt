@@ -12,6 +12,7 @@ abbrev pub queue_of : Inside → QueueView
 queue_of a = record { items = ids_of a.ids.items }
 
 -- the places have room for each id
-pub record IsKept (a : Inside) : Type 0 where
-  pub queue : IsQueue a.ids.items a.stamps.flows.items a.front.places a.front.count
-  pub room : 262144 ≤ vec_capacity a.ids
+pub record IsSoundQueue (inside : Inside) : Type 0 where
+  pub queue : IsQueue inside.ids.items inside.stamps.flows.items inside.front.places
+      inside.front.count
+  pub room : 262144 ≤ vec_capacity inside.ids

@@ -5,13 +5,13 @@ use Rattle.tcp_streams.specs.declared.pair.Side.{Side}
 use Rattle.tcp_streams.specs.declared.pair.Side.TheVariants.{FromLesser, FromGreater}
 
 -- each flow of the list has a stamp other than 0, or there is no memory for its stamp
-abbrev pub AreStamped : List ℕ → List ℕ → Type 0
+abbrev pub AreStamped : (stamps live : List ℕ) → Type 0
 AreStamped stamps live = AllByRecursion (λ id. 0 < get_or stamps id 1) live
 
 -- which of the two flows of a slot stands first, from the places of both; the side of the lesser
 -- endpoint if neither has a place
-unfoldable pub first_side : Option ℕ → Option ℕ → Side
+unfoldable pub first_side : (lesser greater : Option ℕ) → Side
 first_side None None = FromLesser
-first_side (Some l) None = FromLesser
-first_side None (Some g) = FromGreater
-first_side (Some l) (Some g) = cond (nat_lt g l) FromGreater FromLesser
+first_side (Some lesser) None = FromLesser
+first_side None (Some greater) = FromGreater
+first_side (Some lesser) (Some greater) = cond (nat_lt greater lesser) FromGreater FromLesser

@@ -10,5 +10,5 @@ mod stamps;
 mod streams;
 
 pub use pair::{EndpointPair, Side};
-pub use sides::{flow_from, flow_id, other, pair_of};
+pub use sides::{flow_from, flow_id, opposite_side, pair_of};
 pub use streams::Streams;

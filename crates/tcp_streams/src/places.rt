@@ -54,11 +54,11 @@ pub(crate) fn place_of(ids: &Vec<u32>, stamps: &Stamps, front: &Front, flow: u32
     if stamp <= ids.len() && ids[stamp - 1] == flow {
         return Some(stamp - 1);
     }
-    walk(ids, flow)
+    first_index_of(ids, flow)
 }
 
 /// The index of the first number that is the wanted one.
-fn walk(numbers: &Vec<u32>, wanted: u32) -> Option<usize>
+fn first_index_of(numbers: &Vec<u32>, wanted: u32) -> Option<usize>
     ensures { result ≡ index_of wanted numbers.now.items }
 {
     let mut index = 0;
@@ -72,7 +72,7 @@ fn walk(numbers: &Vec<u32>, wanted: u32) -> Option<usize>
 }
 
 /// The id at a rank, found by a walk.
-pub(crate) fn walk_to(ids: &Vec<u32>, rank: usize) -> Option<u32>
+pub(crate) fn id_at_rank(ids: &Vec<u32>, rank: usize) -> Option<u32>
     ensures none { (result ≡ None) → length (ids_of ids.now.items) ≤ rank }
     ensures some { IfSome result (λ id. (rank < length (ids_of ids.now.items))
         × (id ≡ get_or (ids_of ids.now.items) rank 0)) }
@@ -128,7 +128,7 @@ pub(crate) fn push(ids: &mut Vec<u32>, stamps: &mut Stamps, front: &Front, flow:
 }
 
 /// Makes a place free for one more id, if there are fewer ids than there may be.
-pub(crate) fn make_place(ids: &mut Vec<u32>, stamps: &mut Stamps, front: &mut Front)
+pub(crate) fn make_free_place(ids: &mut Vec<u32>, stamps: &mut Stamps, front: &mut Front)
     requires queue { IsQueue ids.old.items stamps.old.flows.items front.old.places
         front.old.count }
     requires fewer { length (ids_of ids.old.items) < most_ids }

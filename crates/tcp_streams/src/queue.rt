@@ -3,12 +3,12 @@
 
 ghost use Rattle.std.specs.Prelude.{◌≡◌, ◌≤◌, ◌<◌, ◌^◌, [], length, get_or, IfOk, IfSome, None};
 ghost use Rattle.std.specs.List.{last_or};
-ghost use Rattle.tcp_streams.specs.Lives.{without, begun, elder_side};
+ghost use Rattle.tcp_streams.specs.Lives.{without, with_begun, elder_side};
 
 use crate::pair::Side;
 use crate::places::{
-    Front, MOST_IDS, PLACES, first_side, last_id, make_place, pack, place_of, push, take_away,
-    walk_to,
+    Front, MOST_IDS, PLACES, first_side, id_at_rank, last_id, make_free_place, pack, place_of,
+    push, take_away,
 };
 use crate::sides::flow_id;
 use crate::stamps::Stamps;
@@ -24,13 +24,13 @@ pub(crate) struct Queue {
 }
 
 impl Model for Queue {
-    ghost use Rattle.tcp_streams.specs.Queue.{QueueView, queue_of, IsKept};
+    ghost use Rattle.tcp_streams.specs.Queue.{QueueView, queue_of, IsSoundQueue};
 
     ghost Value = { QueueView };
 
     ghost view = { queue_of };
 
-    ghost invariant = { IsKept };
+    ghost invariant = { IsSoundQueue };
 }
 
 impl Queue {
@@ -67,7 +67,7 @@ impl Queue {
         ensures few { IfSome result (λ id. rank < 262144) }
     {
         if rank < self.front.count {
-            return walk_to(&self.ids, rank);
+            return id_at_rank(&self.ids, rank);
         }
         let after = rank - self.front.count;
         if after >= self.ids.len() - self.front.places {
@@ -107,11 +107,11 @@ impl Queue {
     /// Puts an id at the end, and takes it away from where it was. A number that is no id changes
     /// nothing.
     pub(crate) fn begin(&mut self, flow: u32)
-        ensures { self.new.items ≡ begun flow self.old.items }
+        ensures { self.new.items ≡ with_begun flow self.old.items }
     {
         if flow < MOST_IDS {
             take_away(&mut self.ids, &mut self.stamps, &mut self.front, flow);
-            make_place(&mut self.ids, &mut self.stamps, &mut self.front);
+            make_free_place(&mut self.ids, &mut self.stamps, &mut self.front);
             push(&mut self.ids, &mut self.stamps, &self.front, flow);
         }
     }

@@ -42,7 +42,7 @@ pub fn flow_id(slot: u32, side: Side) -> u32
 }
 
 /// The side of the other flow of a connection.
-pub fn other(side: Side) -> Side
+pub fn opposite_side(side: Side) -> Side
     ensures { result ≡ opposite side }
 {
     match side {

@@ -3,7 +3,7 @@
 
 ghost use Rattle.std.specs.Prelude.{◌≡◌, ◌≤◌, ◌<◌, ◌^◌, [], length, get_or, IfOk, IfSome, None};
 ghost use Rattle.std.specs.List.{last_or};
-ghost use Rattle.tcp_streams.specs.Lives.{lives, ended, elder_side};
+ghost use Rattle.tcp_streams.specs.Lives.{lives, with_closed, elder_side};
 
 use crate::pair::Side;
 use crate::queue::Queue;
@@ -84,7 +84,7 @@ impl<L: Listener + Drop> Streams<L> {
 /// since it may wait for its next stream. If the end of the capture closes it, the flow stays too,
 /// so that a caller can go through all streams in their order.
 fn end(live: &mut Queue, flow: u32, cause: CloseCause)
-    ensures { live.new.items ≡ ended flow cause live.old.items }
+    ensures { live.new.items ≡ with_closed flow cause live.old.items }
 {
     match cause {
         CloseCause::Gap | CloseCause::End => {}
@@ -103,16 +103,16 @@ impl<L: Listener + Drop> Listener for Streams<L> {
 
     ghost reader = { L.reader };
 
-    fn on_open(&mut self, flow: u32, endpoints: Flow) -> Result<(), ListenerError> {
-        self.listener.on_open(flow, endpoints)
+    fn on_new_flow(&mut self, flow: u32, endpoints: Flow) -> Result<(), ListenerError> {
+        self.listener.on_new_flow(flow, endpoints)
     }
 
     fn on_arrival(&mut self, arrival: Arrival) {
         self.listener.on_arrival(arrival);
     }
 
-    fn on_pass(&mut self, octets: &[u8]) {
-        self.listener.on_pass(octets);
+    fn on_looked_through(&mut self, octets: &[u8]) {
+        self.listener.on_looked_through(octets);
     }
 
     fn on_begin(&mut self, flow: u32, start: Start) -> Result<(), ListenerError> {
@@ -124,8 +124,8 @@ impl<L: Listener + Drop> Listener for Streams<L> {
         self.listener.on_octets(flow, octets)
     }
 
-    fn lacks(&mut self, flow: u32) -> Result<Option<u32>, ListenerError> {
-        self.listener.lacks(flow)
+    fn message_lacks(&mut self, flow: u32) -> Result<Option<u32>, ListenerError> {
+        self.listener.message_lacks(flow)
     }
 
     fn on_close(&mut self, flow: u32, cause: CloseCause) -> Result<(), ListenerError> {

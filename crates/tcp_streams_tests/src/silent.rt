@@ -18,13 +18,13 @@ impl Listener for Silent {
 
     ghost reader = { record { faulted = λ events. None; lacking = λ events id. None } };
 
-    fn on_open(&mut self, _flow: u32, _endpoints: Flow) -> Result<(), ListenerError> {
+    fn on_new_flow(&mut self, _flow: u32, _endpoints: Flow) -> Result<(), ListenerError> {
         Ok(())
     }
 
     fn on_arrival(&mut self, _arrival: Arrival) {}
 
-    fn on_pass(&mut self, _octets: &[u8]) {}
+    fn on_looked_through(&mut self, _octets: &[u8]) {}
 
     fn on_begin(&mut self, _flow: u32, _start: Start) -> Result<(), ListenerError> {
         Ok(())
@@ -34,7 +34,7 @@ impl Listener for Silent {
         Ok(None)
     }
 
-    fn lacks(&mut self, _flow: u32) -> Result<Option<u32>, ListenerError> {
+    fn message_lacks(&mut self, _flow: u32) -> Result<Option<u32>, ListenerError> {
         Ok(None)
     }
 

@@ -1,7 +1,7 @@
-//! The slot of the least rank, the index of a slot's key, and the order of many keys.
+//! The slot of the least rank, the index of a slot's key, the order of many keys, and the last slot of an order.
 
 use std::test::Fail;
-use tcp_slots::{Ranks, SlotTable};
+use tcp_slots::{Order, Ranks, SlotTable};
 
 /// Ranks that five slots get one after another, and the slot that has a lesser rank then than each other, if there is one.
 const RANKS: [(u32, u128, Option<u32>); 9] = [
@@ -21,7 +21,7 @@ fn the_slot_of_the_least_rank_is_first(rt: HostRuntime) -> Result<(), Fail> {
     let mut ranks = Ranks::new(rt.alloc(), 5, 0)?;
     for (slot, rank, first) in RANKS {
         ranks.set(slot, rank);
-        assert_eq!(rt; ranks.first(), first, "rank {rank} of room {slot}");
+        assert_eq!(rt; ranks.unique_least(), first, "rank {rank} of room {slot}");
     }
     Ok(())
 }
@@ -88,5 +88,19 @@ fn many_keys_stand_in_their_order(rt: HostRuntime) -> Result<(), Fail> {
         assert_eq!(rt; *table.key(index), 2 * number + 1, "behind a key that goes");
     }
     assert_eq!(rt; table.len(), 4_501);
+    Ok(())
+}
+
+#[test]
+fn the_last_slot_of_an_order_is_popped(rt: HostRuntime) -> Result<(), Fail> {
+    let mut order = Order::new(rt.alloc(), 3)?;
+    order.insert(0, 7);
+    order.insert(1, 9);
+    order.insert(1, 8);
+    for slot in [9, 8, 7] {
+        assert!(rt; order.len() > 0);
+        assert_eq!(rt; order.pop(), slot);
+    }
+    assert_eq!(rt; order.len(), 0);
     Ok(())
 }

@@ -3,7 +3,7 @@
 use crate::silent::Silent;
 use tcp_flow::{CloseCause, Listener, Start};
 use tcp_segment::{Address, Endpoint, Flow};
-use tcp_streams::{Side, Streams, flow_from, flow_id, other, pair_of};
+use tcp_streams::{Side, Streams, flow_from, flow_id, opposite_side, pair_of};
 
 /// Endpoints, the lesser first.
 const IN_ORDER: [(Address, u16, Address, u16); 4] = [
@@ -37,7 +37,7 @@ fn a_pair_is_the_same_whoever_sends(rt: HostRuntime) {
         assert_eq!(rt; pair, same, "port {port}");
         assert_eq!(rt; pair.lesser, from, "port {port}");
         assert_eq!(rt; side, Side::FromLesser, "port {port}");
-        assert_eq!(rt; opposite, other(side), "port {port}");
+        assert_eq!(rt; opposite, opposite_side(side), "port {port}");
         assert_eq!(rt; flow_from(pair, side), flow, "port {port}");
         assert_eq!(rt; flow_from(pair, opposite), flow.opposite(), "port {port}");
     }
@@ -71,8 +71,8 @@ fn streams_stand_in_the_order_of_their_beginnings(rt: HostRuntime) {
         assert!(rt; streams.on_octets(0, b"GIOP").is_ok());
         // The flow of a stream that a gap closes keeps its place.
         assert!(rt; streams.on_close(5, CloseCause::Gap).is_ok());
-        assert_eq!(rt; streams.lacks(5), Ok(None));
-        streams.on_pass(b"MUCH");
+        assert_eq!(rt; streams.message_lacks(5), Ok(None));
+        streams.on_looked_through(b"MUCH");
         for packed in [false, true] {
             if packed {
                 streams.pack();

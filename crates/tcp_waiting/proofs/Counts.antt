@@ -6,7 +6,7 @@ use Rattle.tcp_waiting.specs.declared.pool.Waiting.{Waiting}
 use Rattle.tcp_waiting.specs.Layout.{payload_in, held_in, AreWithin, AreSmall}
 use Rattle.tcp_waiting.proofs.Held.{length_held, get_held, remove_held}
 use Rattle.tcp_waiting.proofs.Queries.{here}
-use Rattle.tcp_waiting.specs.Payload.{Payload, count_of, load_of, blocks_of, first, is_far, has_as_much}
+use Rattle.tcp_waiting.specs.Payload.{Payload, count_of, load_of, blocks_of, oldest_index, holds_beyond_window, holds_as_long}
 
 -- after one more payload waits
 pub count_insert : (id : ℕ) (ps : List Payload) (i : ℕ) (p : Payload) →
@@ -62,19 +62,21 @@ unfolding count_of
 count_most id [] = omega arith
 count_most id (p ∷ ps) = grind (arith, count_most id ps)
 
-pub first_none : (id next : ℕ) (ps : List Payload) → count_of id ps ≡ 0 → first id next ps ≡ None
-unfolding count_of first
+pub first_none : (id next : ℕ) (ps : List Payload) → count_of id ps ≡ 0 →
+    oldest_index id next ps ≡ None
+unfolding count_of oldest_index
 first_none id next [] h = refl
 first_none id next (p ∷ ps) h = grind (arith, h, first_none id next ps)
 
-pub far_none : (id next : ℕ) (ps : List Payload) → count_of id ps ≡ 0 → is_far id next ps ≡ false
-unfolding count_of is_far
+pub far_none : (id next : ℕ) (ps : List Payload) → count_of id ps ≡ 0 →
+    holds_beyond_window id next ps ≡ false
+unfolding count_of holds_beyond_window
 far_none id next [] h = refl
 far_none id next (p ∷ ps) h = grind (arith, h, far_none id next ps)
 
 pub has_none : (id number count : ℕ) (ps : List Payload) → count_of id ps ≡ 0 →
-    has_as_much id number count ps ≡ false
-unfolding count_of has_as_much
+    holds_as_long id number count ps ≡ false
+unfolding count_of holds_as_long
 has_none id number count [] h = refl
 has_none id number count (p ∷ ps) h = grind (arith, h, has_none id number count ps)
 

@@ -5,3 +5,4 @@ pub mod Numbered
 pub mod Order
 pub mod Packing
 pub mod Queries
+pub mod Reversed

@@ -7,12 +7,12 @@ use Rattle.std.proofs.lemmas.List.Sums.{sum_by-cons}
 use Rattle.slab.specs.Slab.{Slab, get, slab_len, with_value, Updates}
 use Rattle.slab.proofs.SlabLemmas.{Updates-with_value}
 use Rattle.tcp_waiting.specs.declared.pool.Waiting.{Waiting}
-use Rattle.tcp_waiting.specs.Places.{waiting_under, IsTied}
+use Rattle.tcp_waiting.specs.Places.{waiting_under, IsOrderOfSlab}
 use Rattle.tcp_waiting.proofs.Held.{map_insert, map_remove, all_insert, all_remove, all_at}
 
 -- a number differs from all of these
-abbrev pub AreOthers : ℕ → List ℕ → Type 0
-AreOthers n ns = AllByRecursion (λ m. m ≢ n) ns
+abbrev pub IsNoneOf : (number : ℕ) (numbers : List ℕ) → Type 0
+IsNoneOf n ns = AllByRecursion (λ m. m ≢ n) ns
 
 -- what holds on Some, if there is one
 pub some_so : {X : Type 0} (o : Option X) (P : Type 0) → IsSome o → OnSome o P → P
@@ -29,7 +29,7 @@ pub map_same : (f g : ℕ → Waiting) (ns : List ℕ) → AllByRecursion (λ n.
 map_same f g [] h = refl
 map_same f g (n ∷ ns) h = rw (h.0, map_same f g ns h.1) refl
 
-apart : (n : ℕ) (ns : List ℕ) → AllByRecursion (λ m. eqb n m ≡ false) ns → AreOthers n ns
+apart : (n : ℕ) (ns : List ℕ) → AllByRecursion (λ m. eqb n m ≡ false) ns → IsNoneOf n ns
 apart n ns h =
     all_mapped (λ m. eqb n m ≡ false) (λ m. m ≢ n) ns (λ m e same. eqb-false n m e (sym same)) h
 
@@ -54,7 +54,7 @@ distinct_remove (n ∷ ns) zero d = d.1
 distinct_remove (n ∷ ns) (suc i) d =
     (all_remove (λ m. eqb n m ≡ false) ns i d.0, distinct_remove ns i d.1)
 
-pub distinct_insert : (ns : List ℕ) (i n : ℕ) → IsDistinct eqb ns → AreOthers n ns →
+pub distinct_insert : (ns : List ℕ) (i n : ℕ) → IsDistinct eqb ns → IsNoneOf n ns →
     IsDistinct eqb (insert ns i n)
 unfolding IsDistinct
 distinct_insert [] zero n d o = (tt, tt)
@@ -68,7 +68,7 @@ distinct_insert (m ∷ ns) (suc i) n d o =
 
 -- the indices that are left differ from the one that was removed
 pub others_remove : (ns : List ℕ) (i : ℕ) → IsDistinct eqb ns → i < length ns →
-    AreOthers (get_or ns i 0) (remove ns i)
+    IsNoneOf (get_or ns i 0) (remove ns i)
 unfolding IsDistinct
 others_remove [] i d l = absurd (omega (arith, l))
 others_remove (n ∷ ns) zero d l = apart n ns d.0
@@ -80,14 +80,14 @@ others_remove (n ∷ ns) (suc i) d l =
 
 -- an index at which the slab has nothing differs from those at which it has something
 pub vacant_others : (slots : Slab Waiting) (n : ℕ) (ns : List ℕ) → get slots n ≡ None →
-    AllByRecursion (λ m. IsSome (get slots m)) ns → AreOthers n ns
+    AllByRecursion (λ m. IsSome (get slots m)) ns → IsNoneOf n ns
 vacant_others slots n ns e h =
     all_mapped (λ m. IsSome (get slots m)) (λ m. m ≢ n) ns
     (λ m s same. grind (arith, s, same, e)) h
 
 -- the slab has the same at each index of an order, if it was changed at another one
 others_same : (old new : Slab Waiting) (n : ℕ) (slot : Option Waiting) (ns : List ℕ) →
-    Updates old new n slot → AreOthers n ns
+    Updates old new n slot → IsNoneOf n ns
     → AllByRecursion (λ m. get new m ≡ get old m) ns
 others_same old new n slot ns u o =
     all_mapped (λ m. m ≢ n) (λ m. get new m ≡ get old m) ns (λ m e. u.others m e) o
@@ -105,14 +105,16 @@ map_under old new [] s = refl
 map_under old new (n ∷ ns) s = rw (s.0, map_under old new ns s.1) refl
 
 -- an order and a slab after one more payload waits
-pub record IsPut (order now : List ℕ) (old new : Slab Waiting) (i : ℕ) (w : Waiting) : Type 0 where
-  pub tied : IsTied now new
-  pub items : map (waiting_under new) now ≡ insert (map (waiting_under old) order) i w
+pub record SlabInserts (order_before order_after : List ℕ) (old new : Slab Waiting) (place : ℕ)
+    (waiting : Waiting) : Type 0 where
+  pub tied : IsOrderOfSlab order_after new
+  pub items : map (waiting_under new) order_after
+      ≡ insert (map (waiting_under old) order_before) place waiting
 
 pub is_put : (order now : List ℕ) (old new : Slab Waiting) (i n : ℕ) (w : Waiting) →
-    IsTied order old → i ≤ length order → now ≡ insert order i n → get old n ≡ None
+    IsOrderOfSlab order old → i ≤ length order → now ≡ insert order i n → get old n ≡ None
     → Updates old new n (Some w) → slab_len new ≡ slab_len old + 1
-    → IsPut order now old new i w
+    → SlabInserts order now old new i w
 is_put order now old new i n w t l e v u c =
     let others = vacant_others old n order v t.held in
     let same = others_same old new n (Some w) order u others in
@@ -128,13 +130,15 @@ is_put order now old new i n w t l e v u c =
     })
 
 -- an order and a slab after a payload was removed
-pub record IsTaken (order now : List ℕ) (old new : Slab Waiting) (i : ℕ) : Type 0 where
-  pub tied : IsTied now new
-  pub items : map (waiting_under new) now ≡ remove (map (waiting_under old) order) i
+pub record SlabRemoves (order_before order_after : List ℕ) (old new : Slab Waiting)
+    (place : ℕ) : Type 0 where
+  pub tied : IsOrderOfSlab order_after new
+  pub items : map (waiting_under new) order_after
+      ≡ remove (map (waiting_under old) order_before) place
 
-pub is_taken : (order now : List ℕ) (old new : Slab Waiting) (i : ℕ) → IsTied order old →
+pub is_taken : (order now : List ℕ) (old new : Slab Waiting) (i : ℕ) → IsOrderOfSlab order old →
     i < length order → now ≡ remove order i → Updates old new (get_or order i 0) None
-    → slab_len new + 1 ≡ slab_len old → IsTaken order now old new i
+    → slab_len new + 1 ≡ slab_len old → SlabRemoves order now old new i
 is_taken order now old new i t l e u c =
     let others = others_remove order i t.distinct l in
     let same = others_same old new (get_or order i 0) None (remove order i) u others in
@@ -173,13 +177,14 @@ all_held_with old n w ns here h =
     ]) h
 
 -- an order and a slab after a payload was replaced
-pub record IsReplaced (order : List ℕ) (old new : Slab Waiting) (i : ℕ) (w : Waiting) : Type 0 where
-  pub tied : IsTied order new
-  pub items : map (waiting_under new) order ≡ set (map (waiting_under old) order) i w
+pub record SlabReplaces (order : List ℕ) (old new : Slab Waiting) (place : ℕ)
+    (waiting : Waiting) : Type 0 where
+  pub tied : IsOrderOfSlab order new
+  pub items : map (waiting_under new) order ≡ set (map (waiting_under old) order) place waiting
 
 pub is_replaced : (order : List ℕ) (old : Slab Waiting) (i n : ℕ) (w : Waiting) →
-    IsTied order old → i < length order → n ≡ get_or order i 0
-    → IsReplaced order old (with_value old n w) i w
+    IsOrderOfSlab order old → i < length order → n ≡ get_or order i 0
+    → SlabReplaces order old (with_value old n w) i w
 is_replaced order old i n w t l e =
     let held : IsSome (get old n) =
     rw e (all_at (λ m. IsSome (get old m)) order i 0 t.held l) in

@@ -4,8 +4,8 @@ use Rattle.std.specs.List.{AllByRecursion, insert, remove}
 use Rattle.std.specs.Option.{option_map}
 use Rattle.std.proofs.lemmas.Bool.{eqb-true, eq-eqb, ltb-true, ltb-false, lt-ltb, le-ltb, cases_lt, and_parts, both_ways}
 use Rattle.tcp_waiting.specs.Numbers.{rank}
-use Rattle.tcp_waiting.specs.Payload.{Payload, no_payload, key, key_of, place_of, earlier, first, has_as_much}
-use Rattle.tcp_waiting.specs.Layout.{IsSmall, AreSmall, AreOrdered, stands_at}
+use Rattle.tcp_waiting.specs.Payload.{Payload, no_payload, key, key_of, place_of, oldest_with, oldest_index, holds_as_long}
+use Rattle.tcp_waiting.specs.Layout.{IsSmall, AreSmall, AreOrdered, is_of_flow_at}
 use Rattle.tcp_waiting.proofs.Held.{all_at, all_insert, all_remove}
 
 -- ---- Places.
@@ -89,9 +89,9 @@ ordered_remove (p ∷ ps) (suc i) o =
 -- ---- The first of what a flow holds.
 
 within_by : (next : ℕ) (p : Payload) (ps : List Payload) (c : Bool) (r : Option ℕ) →
-    IfSome r (λ k. k < length ps) → IfSome (cond c (earlier next p ps r) (option_map suc r))
+    IfSome r (λ k. k < length ps) → IfSome (cond c (oldest_with next p ps r) (option_map suc r))
     (λ k. k < suc (length ps))
-unfolding earlier
+unfolding oldest_with
 within_by next p ps true None h = omega arith
 within_by next p ps true (Some k) h = grind (arith, h)
 within_by next p ps false None h = tt
@@ -99,17 +99,17 @@ within_by next p ps false (Some k) h = omega (arith, h)
 
 -- the first payload is within the list
 pub first_within : (id next : ℕ) (ps : List Payload) →
-    IfSome (first id next ps) (λ k. k < length ps)
-unfolding first
+    IfSome (oldest_index id next ps) (λ k. k < length ps)
+unfolding oldest_index
 first_within id next [] = tt
-first_within id next (p ∷ ps) = within_by next p ps (nat_eq p.flow id) (first id next ps)
+first_within id next (p ∷ ps) = within_by next p ps (nat_eq p.flow id) (oldest_index id next ps)
     (first_within id next ps)
 
 own_by : (id next : ℕ) (p d : Payload) (ps : List Payload) (c : Bool) (r : Option ℕ) →
     (c ≡ true → p.flow ≡ id) → IfSome r (λ k. (get_or ps k d).flow ≡ id)
-    → IfSome (cond c (earlier next p ps r) (option_map suc r))
+    → IfSome (cond c (oldest_with next p ps r) (option_map suc r))
     (λ k. (get_or (p ∷ ps) k d).flow ≡ id)
-unfolding earlier
+unfolding oldest_with
 own_by id next p d ps true None own h = own refl
 own_by id next p d ps true (Some k) own h = grind (arith, h, own refl)
 own_by id next p d ps false None own h = tt
@@ -117,26 +117,26 @@ own_by id next p d ps false (Some k) own h = h
 
 -- the first payload is the flow's own
 pub first_own : (id next : ℕ) (d : Payload) (ps : List Payload) →
-    IfSome (first id next ps) (λ k. (get_or ps k d).flow ≡ id)
-unfolding first
+    IfSome (oldest_index id next ps) (λ k. (get_or ps k d).flow ≡ id)
+unfolding oldest_index
 first_own id next d [] = tt
-first_own id next d (p ∷ ps) = own_by id next p d ps (nat_eq p.flow id) (first id next ps)
+first_own id next d (p ∷ ps) = own_by id next p d ps (nat_eq p.flow id) (oldest_index id next ps)
     (eqb-true p.flow id) (first_own id next d ps)
 
 -- the payload at an index has no greater rank than any of the flow, and a lesser one than those
 -- before it
-record IsLeast (id next : ℕ) (ps : List Payload) (i : ℕ) : Type 0 where
-  pub within : i < length ps
-  pub own : (d : Payload) → (get_or ps i d).flow ≡ id
-  pub least : (j : ℕ) (d : Payload) → j < length ps → (get_or ps j d).flow ≡ id →
-      rank next (get_or ps i d).number ≤ rank next (get_or ps j d).number
-  pub before : (j : ℕ) (d : Payload) → j < i → (get_or ps j d).flow ≡ id →
-      rank next (get_or ps i d).number < rank next (get_or ps j d).number
+record IsLeast (id next : ℕ) (payloads : List Payload) (index : ℕ) : Type 0 where
+  pub within : index < length payloads
+  pub own : (d : Payload) → (get_or payloads index d).flow ≡ id
+  pub least : (j : ℕ) (d : Payload) → j < length payloads → (get_or payloads j d).flow ≡ id →
+      rank next (get_or payloads index d).number ≤ rank next (get_or payloads j d).number
+  pub before : (j : ℕ) (d : Payload) → j < index → (get_or payloads j d).flow ≡ id →
+      rank next (get_or payloads index d).number < rank next (get_or payloads j d).number
 
 pub first_here : (next : ℕ) (p : Payload) (ps : List Payload) (r : Option ℕ) →
     IfSome r (λ k. rank next p.number ≤ rank next (get_or ps k p).number)
-    → earlier next p ps r ≡ Some 0
-unfolding earlier
+    → oldest_with next p ps r ≡ Some 0
+unfolding oldest_with
 first_here next p ps None h = refl
 first_here next p ps (Some k) h =
     grind (arith, h)
@@ -148,22 +148,23 @@ both (Some k) P Q R f p q = f k p q
 
 first_behind : (next : ℕ) (p : Payload) (ps : List Payload) (i : ℕ) (c : Bool) →
     (c ≡ true → rank next (get_or ps i p).number < rank next p.number)
-    → cond c (earlier next p ps (Some i)) (option_map suc (Some i)) ≡ Some (suc i)
-unfolding earlier
+    → cond c (oldest_with next p ps (Some i)) (option_map suc (Some i)) ≡ Some (suc i)
+unfolding oldest_with
 first_behind next p ps i true h =
     grind (arith, h refl)
 first_behind next p ps i false h = refl
 
 first_is : (id next : ℕ) (ps : List Payload) (i : ℕ) → IsLeast id next ps i →
-    first id next ps ≡ Some i
-unfolding first
+    oldest_index id next ps ≡ Some i
+unfolding oldest_index
 first_is id next [] i h = absurd (omega (arith, h.within))
 first_is id next (p ∷ ps) zero h =
-    rw (eq-eqb p.flow id (h.own p)) (first_here next p ps (first id next ps)
-    (both (first id next ps) _ _ _ (λ k within own. h.least (suc k) p (omega (arith, within)) own)
+    rw (eq-eqb p.flow id (h.own p)) (first_here next p ps (oldest_index id next ps)
+    (both (oldest_index id next ps) _ _ _ (λ k within own. h.least (suc k) p
+    (omega (arith, within)) own)
     (first_within id next ps) (first_own id next p ps)))
 first_is id next (p ∷ ps) (suc i) h =
-    let e : first id next ps ≡ Some i = first_is id next ps i (record {
+    let e : oldest_index id next ps ≡ Some i = first_is id next ps i (record {
       within = omega (arith, h.within);
       own = λ d. h.own d;
       least = λ j d l own. h.least (suc j) d (omega (arith, l)) own;
@@ -174,8 +175,8 @@ first_is id next (p ∷ ps) (suc i) h =
 
 first_is_none : (id next : ℕ) (ps : List Payload) →
     ((j : ℕ) (d : Payload) → j < length ps → (get_or ps j d).flow ≡ id → ⊥)
-    → first id next ps ≡ None
-unfolding first
+    → oldest_index id next ps ≡ None
+unfolding oldest_index
 first_is_none id next [] h = refl
 first_is_none id next (p ∷ ps) h =
     grind (
@@ -185,16 +186,16 @@ first_is_none id next (p ∷ ps) h =
     )
 
 -- the number of the least rank
-abbrev pub oldest : ℕ → ℕ
-oldest next = (next + 2 ^ 31) % 2 ^ 32
+abbrev pub oldest_number : (next : ℕ) → ℕ
+oldest_number next = (next + 2 ^ 31) % 2 ^ 32
 
 -- the rank of a number from the oldest one on, and of a number below it
-rank_from : (next n : ℕ) → next < 2 ^ 32 → n < 2 ^ 32 → oldest next ≤ n →
-    rank next n + oldest next ≡ n
+rank_from : (next n : ℕ) → next < 2 ^ 32 → n < 2 ^ 32 → oldest_number next ≤ n →
+    rank next n + oldest_number next ≡ n
 rank_from next n a b h = omega (arith, a, b, h)
 
-rank_below : (next n : ℕ) → next < 2 ^ 32 → n < 2 ^ 32 → n < oldest next →
-    rank next n + oldest next ≡ n + 2 ^ 32
+rank_below : (next n : ℕ) → next < 2 ^ 32 → n < 2 ^ 32 → n < oldest_number next →
+    rank next n + oldest_number next ≡ n + 2 ^ 32
 rank_below next n a b h = omega (arith, a, b, h)
 
 pub same_at : (ps : List Payload) (i : ℕ) (d e : Payload) → i < length ps →
@@ -213,7 +214,7 @@ in_front : (k : ℕ) (ps : List Payload) (i : ℕ) (d : Payload) → i < place_o
 in_front k ps i d h =
     grind (arith, h, place_below k ps i d (omega (arith, h, place_within k ps)))
 
-pub stands_own : (i id : ℕ) (ps : List Payload) → stands_at i id ps ≡ true →
+pub stands_own : (i id : ℕ) (ps : List Payload) → is_of_flow_at i id ps ≡ true →
     (i < length ps) × ((d : Payload) → (get_or ps i d).flow ≡ id)
 stands_own i id ps h =
     let e = and_parts (nat_lt i (length ps)) (nat_eq (get_or ps i no_payload).flow id) h in
@@ -224,7 +225,7 @@ stands_own i id ps h =
     )
 
 stands_so : (i id : ℕ) (ps : List Payload) (d : Payload) → i < length ps →
-    (get_or ps i d).flow ≡ id → stands_at i id ps ≡ true
+    (get_or ps i d).flow ≡ id → is_of_flow_at i id ps ≡ true
 stands_so i id ps d l h = grind (arith, l, h, same_at ps i no_payload d l)
 
 -- a payload between two keys of a flow is one of the flow
@@ -235,7 +236,7 @@ between id n m p q s t own low high =
 
 -- if the payload at a key's place isn't the flow's, none after it is
 none_behind : (id n m : ℕ) (ps : List Payload) (i j : ℕ) (d : Payload) → AreOrdered ps →
-    AreSmall ps → i ≡ place_of (key id n m) ps → stands_at i id ps ≡ false → j < length ps
+    AreSmall ps → i ≡ place_of (key id n m) ps → is_of_flow_at i id ps ≡ false → j < length ps
     → (get_or ps j d).flow ≡ id → j < i
 none_behind id n m ps i j d o s is none l own = elim (cases_lt j i) [
   | inl a ↦ a
@@ -244,7 +245,7 @@ none_behind id n m ps i j d o s is none l own = elim (cases_lt j i) [
       let own_too : (get_or ps i d).flow ≡ id = between id n m (get_or ps i d) (get_or ps j d)
       (all_at IsSmall ps i d s w) (all_at IsSmall ps j d s l) own
       (behind (key id n m) ps i d o w (omega (arith, is))) (ordered_at ps i j d o b l) in
-      absurd (both_ways (stands_at i id ps) none (stands_so i id ps d w own_too)))
+      absurd (both_ways (is_of_flow_at i id ps) none (stands_so i id ps d w own_too)))
 ]
 
 -- of two payloads of a flow the later one has no lesser number
@@ -260,12 +261,12 @@ upward id ps i j d o s h l own own_too = omega (
 )
 
 least_oldest : (id next : ℕ) (ps : List Payload) (i : ℕ) → AreOrdered ps → AreSmall ps →
-    next < 2 ^ 32 → i ≡ place_of (key id (oldest next) 0) ps → stands_at i id ps ≡ true
+    next < 2 ^ 32 → i ≡ place_of (key id (oldest_number next) 0) ps → is_of_flow_at i id ps ≡ true
     → IsLeast id next ps i
 least_oldest id next ps i o s n is at =
-    let k : ℕ = key id (oldest next) 0 in
+    let k : ℕ = key id (oldest_number next) 0 in
     let here = stands_own i id ps at in
-    let number : (d : Payload) → oldest next ≤ (get_or ps i d).number = λ d. omega (
+    let number : (d : Payload) → oldest_number next ≤ (get_or ps i d).number = λ d. omega (
       arith,
       behind k ps i d o here.0 (omega (arith, is)),
       here.1 d,
@@ -274,7 +275,7 @@ least_oldest id next ps i o s n is at =
     let before : (j : ℕ) (d : Payload) → j < i → (get_or ps j d).flow ≡ id →
     rank next (get_or ps i d).number < rank next (get_or ps j d).number = λ j d l own.
     (let lj : j < length ps = omega (arith, l, here.0) in
-    let less : (get_or ps j d).number < oldest next =
+    let less : (get_or ps j d).number < oldest_number next =
     omega (arith, in_front k ps j d (omega (arith, l, is)), own) in
     omega (
       arith,
@@ -304,17 +305,17 @@ least_oldest id next ps i o s n is at =
 
 -- if no payload of a flow is from its oldest number on, the one of the least number is the first
 least_number : (id next : ℕ) (ps : List Payload) (i j : ℕ) → AreOrdered ps → AreSmall ps →
-    next < 2 ^ 32 → i ≡ place_of (key id (oldest next) 0) ps → stands_at i id ps ≡ false
-    → j ≡ place_of (key id 0 0) ps → stands_at j id ps ≡ true → IsLeast id next ps j
+    next < 2 ^ 32 → i ≡ place_of (key id (oldest_number next) 0) ps → is_of_flow_at i id ps ≡ false
+    → j ≡ place_of (key id 0 0) ps → is_of_flow_at j id ps ≡ true → IsLeast id next ps j
 least_number id next ps i j o s n is none js at =
     let here = stands_own j id ps at in
     let below : (m : ℕ) (d : Payload) → m < length ps → (get_or ps m d).flow ≡ id →
-    (get_or ps m d).number < oldest next = λ m d l own. omega (
+    (get_or ps m d).number < oldest_number next = λ m d l own. omega (
       arith,
-      in_front (key id (oldest next) 0) ps m d (omega (
+      in_front (key id (oldest_number next) 0) ps m d (omega (
         arith,
         is,
-        none_behind id (oldest next) 0 ps i m d o s is none l own,
+        none_behind id (oldest_number next) 0 ps i m d o s is none l own,
       )),
       own,
     ) in
@@ -341,19 +342,19 @@ least_number id next ps i j o s n is none js at =
 
 -- the first payload of a flow, found by two searches
 pub first_oldest : (id next : ℕ) (ps : List Payload) (i : ℕ) → AreOrdered ps → AreSmall ps →
-    next < 2 ^ 32 → i ≡ place_of (key id (oldest next) 0) ps → stands_at i id ps ≡ true
-    → first id next ps ≡ Some i
+    next < 2 ^ 32 → i ≡ place_of (key id (oldest_number next) 0) ps → is_of_flow_at i id ps ≡ true
+    → oldest_index id next ps ≡ Some i
 first_oldest id next ps i o s n is at =
     first_is id next ps i (least_oldest id next ps i o s n is at)
 
 pub first_number : (id next : ℕ) (ps : List Payload) (i j : ℕ) → AreOrdered ps → AreSmall ps →
-    next < 2 ^ 32 → i ≡ place_of (key id (oldest next) 0) ps → stands_at i id ps ≡ false
-    → j ≡ place_of (key id 0 0) ps → stands_at j id ps ≡ true → first id next ps ≡ Some j
+    next < 2 ^ 32 → i ≡ place_of (key id (oldest_number next) 0) ps → is_of_flow_at i id ps ≡ false
+    → j ≡ place_of (key id 0 0) ps → is_of_flow_at j id ps ≡ true → oldest_index id next ps ≡ Some j
 first_number id next ps i j o s n is none js at =
     first_is id next ps j (least_number id next ps i j o s n is none js at)
 
 pub first_nowhere : (id next : ℕ) (ps : List Payload) (j : ℕ) → AreOrdered ps → AreSmall ps →
-    j ≡ place_of (key id 0 0) ps → stands_at j id ps ≡ false → first id next ps ≡ None
+    j ≡ place_of (key id 0 0) ps → is_of_flow_at j id ps ≡ false → oldest_index id next ps ≡ None
 first_nowhere id next ps j o s js none = first_is_none id next ps (λ m d l own. omega (
   arith,
   in_front (key id 0 0) ps m d (omega (
@@ -368,8 +369,8 @@ first_nowhere id next ps j o s js none = first_is_none id next ps (λ m d l own.
 
 has_so : (id number count : ℕ) (ps : List Payload) (i : ℕ) (d : Payload) → i < length ps →
     (get_or ps i d).flow ≡ id → (get_or ps i d).number ≡ number
-    → count ≤ length (get_or ps i d).octets → has_as_much id number count ps ≡ true
-unfolding has_as_much
+    → count ≤ length (get_or ps i d).octets → holds_as_long id number count ps ≡ true
+unfolding holds_as_long
 has_so id number count [] i d l f n c = absurd (omega (arith, l))
 has_so id number count (p ∷ ps) zero d l f n c =
     grind (arith, f, n, c)
@@ -379,8 +380,8 @@ has_so id number count (p ∷ ps) (suc i) d l f n c =
 has_not : (id number count : ℕ) (ps : List Payload) →
     ((i : ℕ) (d : Payload) → i < length ps → (get_or ps i d).flow ≡ id
     → (get_or ps i d).number ≡ number → count ≤ length (get_or ps i d).octets → ⊥)
-    → has_as_much id number count ps ≡ false
-unfolding has_as_much
+    → holds_as_long id number count ps ≡ false
+unfolding holds_as_long
 has_not id number count [] h = refl
 has_not id number count (p ∷ ps) h =
     grind (
@@ -391,8 +392,8 @@ has_not id number count (p ∷ ps) h =
 
 -- found by one search
 has_there : (id number count : ℕ) (ps : List Payload) (i : ℕ) (d : Payload) → AreOrdered ps →
-    i ≡ place_of (key id number count) ps → stands_at i id ps ≡ true
-    → (get_or ps i d).number ≡ number → has_as_much id number count ps ≡ true
+    i ≡ place_of (key id number count) ps → is_of_flow_at i id ps ≡ true
+    → (get_or ps i d).number ≡ number → holds_as_long id number count ps ≡ true
 has_there id number count ps i d o is at n =
     let here = stands_own i id ps at in
     has_so id number count ps i d here.0 (here.1 d) n (omega (
@@ -403,8 +404,8 @@ has_there id number count ps i d o is at n =
     ))
 
 has_other : (id number count : ℕ) (ps : List Payload) (i : ℕ) (e : Payload) → AreOrdered ps →
-    AreSmall ps → i ≡ place_of (key id number count) ps → stands_at i id ps ≡ true
-    → ((get_or ps i e).number ≡ number → ⊥) → has_as_much id number count ps ≡ false
+    AreSmall ps → i ≡ place_of (key id number count) ps → is_of_flow_at i id ps ≡ true
+    → ((get_or ps i e).number ≡ number → ⊥) → holds_as_long id number count ps ≡ false
 has_other id number count ps i e o s is at other =
     let here = stands_own i id ps at in
     has_not id number count ps (λ j d l f n c.
@@ -423,8 +424,8 @@ has_other id number count ps i e o s is at other =
     )))
 
 pub has_by : (id number count : ℕ) (ps : List Payload) (i : ℕ) (d : Payload) → AreOrdered ps →
-    AreSmall ps → i ≡ place_of (key id number count) ps → stands_at i id ps ≡ true
-    → has_as_much id number count ps ≡ nat_eq (get_or ps i d).number number
+    AreSmall ps → i ≡ place_of (key id number count) ps → is_of_flow_at i id ps ≡ true
+    → holds_as_long id number count ps ≡ nat_eq (get_or ps i d).number number
 has_by id number count ps i d o s is at = grind (
   arith,
   has_there id number count ps i d o is at,
@@ -432,8 +433,8 @@ has_by id number count ps i d o s is at = grind (
 )
 
 pub has_nowhere : (id number count : ℕ) (ps : List Payload) (i : ℕ) → AreOrdered ps →
-    AreSmall ps → i ≡ place_of (key id number count) ps → stands_at i id ps ≡ false
-    → has_as_much id number count ps ≡ false
+    AreSmall ps → i ≡ place_of (key id number count) ps → is_of_flow_at i id ps ≡ false
+    → holds_as_long id number count ps ≡ false
 has_nowhere id number count ps i o s is none =
     has_not id number count ps (λ j d l f n c. omega (
       arith,

@@ -4,15 +4,17 @@ use Rattle.std.specs.List.{insert, remove}
 use Rattle.std.proofs.Math.Seq.{drop-cons}
 use Rattle.std.proofs.Math.ListN.{drop_of_length-le}
 use Rattle.tcp_waiting.specs.declared.pool.Waiting.{Waiting}
-use Rattle.tcp_waiting.specs.Payload.{Payload, blocks_of, load_of, is_far, ends_far, key, key_of, AreYounger}
-use Rattle.tcp_waiting.specs.Layout.{octets_at, payload_in, held_in, AreWithin, AreSince}
+use Rattle.tcp_waiting.specs.Payload.{Payload, blocks_of, load_of, holds_beyond_window, ends_beyond_window, key, key_of, AreYounger}
+use Rattle.tcp_waiting.specs.Layout.{octets_at, payload_in, held_in, AreWithin, CameNotBefore}
 use Rattle.tcp_waiting.proofs.Held.{length_held, get_held, remove_held, all_at, length_octets}
 
 -- the payload at an index, and those after it
-pub record IsAtIndex (all : List ℕ) (ws : List Waiting) (k : ℕ) (w : Waiting) : Type 0 where
-  pub behind : drop k (held_in all ws) ≡ payload_in all w ∷ drop (k + 1) (held_in all ws)
-  pub count : length (octets_at all w.from w.count) ≡ w.count
-  pub ends : w.from + w.count ≤ length all
+pub record IsAtIndex (all : List ℕ) (waitings : List Waiting) (index : ℕ)
+    (waiting : Waiting) : Type 0 where
+  pub behind : drop index (held_in all waitings) ≡ payload_in all waiting
+      ∷ drop (index + 1) (held_in all waitings)
+  pub count : length (octets_at all waiting.from waiting.count) ≡ waiting.count
+  pub ends : waiting.from + waiting.count ≤ length all
 
 pub here : (all : List ℕ) (ws : List Waiting) (k : ℕ) (w : Waiting) → AreWithin (length all) ws →
     k < length ws → w ≡ get_or ws k w → IsAtIndex all ws k w
@@ -39,10 +41,10 @@ key_here all ws k w d within h is = ap key_of (get_held all ws k w d h is)
 
 pub far_turn : (all : List ℕ) (ws : List Waiting) (k : ℕ) (w : Waiting) (id next : ℕ) →
     IsAtIndex all ws k w
-    → is_far id next (drop k (held_in all ws))
-    ≡ ((nat_eq w.flow id && ends_far next w.number w.count)
-    || is_far id next (drop (k + 1) (held_in all ws)))
-unfolding is_far
+    → holds_beyond_window id next (drop k (held_in all ws))
+    ≡ ((nat_eq w.flow id && ends_beyond_window next w.number w.count)
+    || holds_beyond_window id next (drop (k + 1) (held_in all ws)))
+unfolding holds_beyond_window
 far_turn all ws k w id next h = rw (h.behind, h.count) refl
 
 nothing_left : (all : List ℕ) (ws : List Waiting) (k : ℕ) → length ws ≤ k →
@@ -50,19 +52,20 @@ nothing_left : (all : List ℕ) (ws : List Waiting) (k : ℕ) → length ws ≤ 
 nothing_left all ws k h = drop_of_length-le (held_in all ws) (omega (arith, h, length_held all ws))
 
 pub far_end : (all : List ℕ) (ws : List Waiting) (k id next : ℕ) → length ws ≤ k →
-    is_far id next (drop k (held_in all ws)) ≡ false
-unfolding is_far
+    holds_beyond_window id next (drop k (held_in all ws)) ≡ false
+unfolding holds_beyond_window
 far_end all ws k id next h =
     rw (nothing_left all ws k h) refl
 
 -- what came at a time or later also came at any time before that or later
-pub since_before : (since before : ℕ) (ps : List Payload) → before ≤ since → AreSince since ps →
-    AreSince before ps
+pub since_before : (since before : ℕ) (ps : List Payload) → before ≤ since →
+    CameNotBefore since ps →
+    CameNotBefore before ps
 since_before since before [] l h = tt
 since_before since before (p ∷ ps) l h =
     (λ came e. omega (arith, l, h.0 came e), since_before since before ps l h.1)
 
-pub young : (since age time : ℕ) (ps : List Payload) → time - since < age → AreSince since ps →
+pub young : (since age time : ℕ) (ps : List Payload) → time - since < age → CameNotBefore since ps →
     AreYounger age time ps
 young since age time [] l h = tt
 young since age time (p ∷ ps) l h =

@@ -1,7 +1,7 @@
 //! The payloads that wait, in order. When one comes or goes, only the slots of few others are moved,
 //! which have four octets each.
 
-ghost use Rattle.std.specs.Prelude.{◌≡◌, ◌≤◌, ◌<◌, ◌^◌, [], length, get_or, set, IfOk};
+ghost use Rattle.std.specs.Prelude.{◌≡◌, ◌≤◌, ◌<◌, ◌^◌, [], length, get_or, set, reverse, IfOk};
 ghost use Rattle.std.specs.List.{insert, remove};
 
 use crate::pool::Waiting;
@@ -15,19 +15,20 @@ use tcp_slots::Order;
 pub(crate) struct Places {
     /// How many payloads may wait.
     room: usize,
-    /// The slot in `slots` of the payload at each place.
+    /// The slot in `slots` of the payload at each place, the last one first: so the first payload
+    /// goes without a move of others.
     order: Order,
     slots: Slab<Waiting>,
 }
 
 impl Model for Places {
-    ghost use Rattle.tcp_waiting.specs.Places.{PlacesView, places_of, AreKept};
+    ghost use Rattle.tcp_waiting.specs.Places.{PlacesView, places_of, AreSoundPlaces};
 
     ghost Value = { PlacesView };
 
     ghost view = { places_of };
 
-    ghost invariant = { AreKept };
+    ghost invariant = { AreSoundPlaces };
 }
 
 impl Places {
@@ -59,7 +60,7 @@ impl Places {
         requires { place < length self.now.items }
         ensures { result ≡ get_or self.now.items place result }
     {
-        self.slots[self.order.at(place) as usize]
+        self.slots[slot_from_end(&self.order, place) as usize]
     }
 
     /// Inserts a payload before the one at a place, or at the end. There must be room.
@@ -70,7 +71,7 @@ impl Places {
         ensures room { self.new.room ≡ self.old.room }
     {
         let number = self.slots.insert_reserved(waiting);
-        self.order.insert(place, number as u32);
+        insert_from_end(&mut self.order, place, number as u32);
     }
 
     /// Removes the payload at a place.
@@ -79,7 +80,7 @@ impl Places {
         ensures items { self.new.items ≡ remove self.old.items place }
         ensures room { self.new.room ≡ self.old.room }
     {
-        let number = self.order.remove(place);
+        let number = remove_from_end(&mut self.order, place);
         self.slots.try_remove(number as usize);
     }
 
@@ -89,7 +90,41 @@ impl Places {
         ensures items { self.new.items ≡ set self.old.items place waiting }
         ensures room { self.new.room ≡ self.old.room }
     {
-        let number = self.order.at(place);
+        let number = slot_from_end(&self.order, place);
         self.slots[number as usize] = waiting;
     }
+}
+
+/// The slot at a place, if the last place comes first.
+#[inline]
+fn slot_from_end(order: &Order, place: usize) -> u32
+    requires { place < length order.now.items }
+    ensures { result ≡ get_or (reverse order.now.items) place 0 }
+{
+    order.at(order.len() - 1 - place)
+}
+
+/// Inserts a slot at a place, if the last place comes first.
+fn insert_from_end(order: &mut Order, place: usize, slot: u32)
+    requires place { place ≤ length order.old.items }
+    requires some { length order.old.items < order.old.most }
+    ensures items { reverse order.new.items ≡ insert (reverse order.old.items) place slot }
+    ensures most { order.new.most ≡ order.old.most }
+{
+    let index = order.len() - place;
+    order.insert(index, slot);
+}
+
+/// Removes the slot at a place, if the last place comes first, and answers it.
+fn remove_from_end(order: &mut Order, place: usize) -> u32
+    requires { place < length order.old.items }
+    ensures items { reverse order.new.items ≡ remove (reverse order.old.items) place }
+    ensures slot { result ≡ get_or (reverse order.old.items) place 0 }
+    ensures most { order.new.most ≡ order.old.most }
+{
+    if place == 0 {
+        return order.pop();
+    }
+    let index = order.len() - 1 - place;
+    order.remove(index)
 }

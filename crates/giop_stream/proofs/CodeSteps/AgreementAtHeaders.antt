@@ -17,91 +17,95 @@ use Rattle.giop_cdr.specs.Alignment.{padding}
 use Rattle.giop_message.specs.Phases.{unbroken}
 use Rattle.giop_message.specs.Headers.{minor, kind, size}
 use Rattle.giop_message.specs.Signatures.{Answer, Answers, signatures_of}
-use Rattle.giop_message.specs.Messages.{MessageReading, section_then, rest_in, rest, of_header, message, message_lines, message_marks}
+use Rattle.giop_message.specs.Messages.{MessageReading, section_then, read_rest_in_parts, read_rest, read_header_and_rest, read_message, message_lines, message_marks}
 use Rattle.giop_message.specs.MessageReader.{MessageReader}
 use Rattle.giop_message.specs.ReaderOfTable.{first_request_id, message_reader}
 use Rattle.giop_message.specs.HeaderEnds.{HeaderEnd, CallEvent, Header_end, Exception_end, noted_in, marks, header_noted, header_ends, call_event, after_event, after_ends, AgreesAtEnds}
 use Rattle.giop_message.proofs.MessageLaws.{is_causal, is_ending, header_ended, unended_agree, answers_first, answers_then}
 use Rattle.giop_stream.specs.Rules.{Rules, asks_by, joins_by, rules_by}
 use Rattle.giop_stream.specs.Framing.{CutMessage, Cut, limit, cut, messages, fault_of}
-use Rattle.giop_stream.specs.Kinds.{is_any_fragment, named_at}
-use Rattle.giop_stream.specs.Events.{EventKind, Takes, MessageKey, Event, Before, Open, message_key, place, key, opener_of, goes_past, own, event_of_open, payload_events, naming_events, message_end_events, events_of_octet, events_from, events, open_after, octet, joined, mixes, before_by, Now, now_of}
+use Rattle.giop_stream.specs.Kinds.{is_any_fragment, lookup_offset}
+use Rattle.giop_stream.specs.Events.{EventKind, Takes, MessageKey, Event, OpenState, Open, message_key, place, key, opener_of, has_joined_octets, own_event, event_of_open, payload_events, naming_events, message_end_events, events_of_octet, events_from, events, open_after, octets_of_event, joined_octets, ends_joining, before_by, MessageOctet, last_octet_of}
 use Rattle.giop_stream.specs.Lines.{StreamLine, Kept, nothing_kept, stop_line, lines}
-use Rattle.giop_stream.specs.Stream.{text, tally, final, closing}
-use Rattle.giop_stream.specs.OpenSlots.{KeptByNumber, slots_of, known_of, Tracked, tracked_after, asked_in, asked_by, before_in}
-use Rattle.giop_stream.specs.Effects.{Effect, kept_then, lines_for, lines_at, tracked_at, effects, with_octet, event}
-use Rattle.giop_stream.specs.Octet.{Octet, AfterStop, Ends, Held, Of, octet_in, octet_of, header_of, payload_count_of}
+use Rattle.giop_stream.specs.Stream.{text, totals_so_far, final, closing}
+use Rattle.giop_stream.specs.OpenSlots.{KeptByNumber, slots_of, known_of, Tracked, tracked_after, given_id, given_id_of_open, before_in}
+use Rattle.giop_stream.specs.Effects.{Effect, kept_after_event, lines_for, lines_at, tracked_after_event, effects, with_octet, event}
+use Rattle.giop_stream.specs.Octet.{OctetKind, AfterStop, Ends, Held, Of, octet_in, octet_of, header_of, payload_count_of}
 use Rattle.giop_stream.specs.PayloadOwner.{owner_of_octet}
 use Rattle.giop_stream.specs.EngineState.{opener_key, owner_of_next, state_of}
-use Rattle.giop_stream.specs.EngineStep.{finish, final_totals}
+use Rattle.giop_stream.specs.EngineStep.{text_at_finish, final_totals}
 use Rattle.giop_stream.specs.EngineHolds.{HoldsBy, added}
 use Rattle.giop_stream.specs.EngineView.{EngineView, FramingView}
 use Rattle.giop_stream.specs.ViewOfState.{Shows}
-use Rattle.giop_stream.specs.Shares.{continued}
+use Rattle.giop_stream.specs.Shares.{octets_if_joined_to}
 use Rattle.giop_stream.specs.HeaderEndsOfStream.{owner_header_ends, current_header_ends, header_ends_at, header_ends_from}
 use Rattle.giop_stream.specs.AnswersAgree.{AnswersAlike, AgreeAtHeaders}
 use Rattle.giop_stream.proofs.Lists.{each_append, each_weaker, all_by}
-use Rattle.giop_stream.proofs.Cuts.Cutting.{of_parts, stopped_at}
-use Rattle.giop_stream.proofs.Cuts.CutFrom.{end_message}
+use Rattle.giop_stream.proofs.Cuts.Cutting.{cut_of_parts, cut_stopped_at}
+use Rattle.giop_stream.proofs.Cuts.CutFrom.{cut_with_last_message}
 use Rattle.giop_stream.proofs.Cuts.Numbers.{header_of_number}
 use Rattle.giop_stream.proofs.Cuts.Start.{events_nothing, lines_nothing, known_nothing, open_nothing}
 use Rattle.giop_stream.proofs.Events.EventsOfOctet.{events_of_octet_each, opened_each}
 use Rattle.giop_stream.proofs.Events.EventsByEngine.{found_in}
 use Rattle.giop_stream.proofs.Events.Soundness.{IsSound}
-use Rattle.giop_stream.proofs.Events.Sharing.{more_of, header_joined, octet_joined}
+use Rattle.giop_stream.proofs.Events.Sharing.{share_of_octet, header_joined, octet_joined}
 use Rattle.giop_stream.proofs.StreamLines.LinesOfOctet.{joined_append}
 use Rattle.giop_stream.proofs.SlotSteps.Parts.{in_turn, owner_next}
-use Rattle.giop_stream.proofs.CodeSteps.OneOctet.{Adds, IsOf, Then, octet_limit, then_is}
+use Rattle.giop_stream.proofs.CodeSteps.OneOctet.{AddsLinesAndState, IsOctetOfMessage, IsStateThen, octet_limit, then_is}
 use Rattle.giop_stream.proofs.CodeSteps.EngineAlive.{sound}
 use Rattle.giop_stream.proofs.CodeSteps.WhatStands.{before_is}
-use Rattle.giop_stream.proofs.CodeSteps.KeptOn.{kept_on, kept_on_append, kept_was, effects_was, noted_of, on_before, quiet_on}
+use Rattle.giop_stream.proofs.CodeSteps.KeptOn.{kept_after_events, kept_on_append, kept_was, effects_was, noted_in_kept, on_before, quiet_on}
 use Rattle.giop_stream.proofs.CodeSteps.EngineLaws.{finish_is, final_is}
-use Rattle.giop_stream.proofs.CodeSteps.StreamAgreement.{tells_agree, IsSame, shows_agree, each_parts, each_own, of_owner, one_header}
+use Rattle.giop_stream.proofs.CodeSteps.StreamAgreement.{tells_agree, AgreesIfKept, shows_agree, each_parts, each_own, of_owner, one_header}
 use Rattle.giop_stream.proofs.CodeSteps.HeaderEndSteps.{at_free, from_append}
 
 -- ---- before the first octet no header has ended
 
-abbrev Unended : List ℕ → Option Ty → Type 0
-Unended header found = noted_in (message_marks (of_header
+abbrev IsHeaderUnended : (header : List ℕ) (found : Option Ty) → Type 0
+IsHeaderUnended header found = noted_in (message_marks (read_header_and_rest
     (signatures_of builtin_table (λ id. None) unbroken) header found 12 [])) ≡ None
 
-in_1_0 : (k : ℕ) (header : List ℕ) → Unended header (header_type 1 0 k)
-unfolding tree_at builtin_types number padding block of_header section_then rest rest_in
+in_1_0 : (k : ℕ) (header : List ℕ) → IsHeaderUnended header (header_type 1 0 k)
+unfolding tree_at builtin_types number padding block read_header_and_rest section_then read_rest
+    read_rest_in_parts
     message_marks
 in_1_0 (suc (suc (suc (suc (suc (suc (suc (suc k)))))))) header = refl
 in_1_0 _ header = refl
 
-in_1_1 : (k : ℕ) (header : List ℕ) → Unended header (header_type 1 1 k)
-unfolding tree_at builtin_types number padding block of_header section_then rest rest_in
+in_1_1 : (k : ℕ) (header : List ℕ) → IsHeaderUnended header (header_type 1 1 k)
+unfolding tree_at builtin_types number padding block read_header_and_rest section_then read_rest
+    read_rest_in_parts
     message_marks
 in_1_1 (suc (suc (suc (suc (suc (suc (suc (suc k)))))))) header = refl
 in_1_1 _ header = refl
 
-in_1_2 : (k : ℕ) (header : List ℕ) → Unended header (header_type 1 2 k)
-unfolding tree_at builtin_types number padding block of_header section_then rest rest_in
+in_1_2 : (k : ℕ) (header : List ℕ) → IsHeaderUnended header (header_type 1 2 k)
+unfolding tree_at builtin_types number padding block read_header_and_rest section_then read_rest
+    read_rest_in_parts
     message_marks
 in_1_2 (suc (suc (suc (suc (suc (suc (suc (suc k)))))))) header = refl
 in_1_2 _ header = refl
 
-in_others : (m k : ℕ) (header : List ℕ) → Unended header (header_type 1 (suc (suc (suc m))) k)
-unfolding of_header rest rest_in message_marks
+in_others : (m k : ℕ) (header : List ℕ) → IsHeaderUnended header (header_type 1 (suc (suc
+    (suc m))) k)
+unfolding read_header_and_rest read_rest read_rest_in_parts message_marks
 in_others m (suc (suc (suc (suc (suc (suc (suc (suc k)))))))) header = refl
 in_others m _ header = refl
 
-none_at_first : (m k : ℕ) (header : List ℕ) → Unended header (header_type 1 m k)
+none_at_first : (m k : ℕ) (header : List ℕ) → IsHeaderUnended header (header_type 1 m k)
 none_at_first zero k header = in_1_0 k header
 none_at_first (suc zero) k header = in_1_1 k header
 none_at_first (suc (suc zero)) k header = in_1_2 k header
 none_at_first (suc (suc (suc m))) k header = in_others m k header
 
 not_noted : (header : List ℕ) → header_noted unbroken header [] ≡ None
-unfolding header_noted marks message signatures_of
+unfolding header_noted marks read_message signatures_of
 not_noted header = none_at_first (minor header) (kind header) header
 
 -- ---- what an octet gives to its owner
 
 -- the octet's event
-unfoldable pub takes_of : ℕ → Option MessageKey → ℕ → List Event
+unfoldable pub takes_of : (place : ℕ) (owner : Option MessageKey) (octet : ℕ) → List Event
 takes_of at None x = []
 takes_of at (Some w) x = event at w (Takes x) ∷ []
 
@@ -110,36 +114,37 @@ given : ℕ → ℕ → Option MessageKey → List ℕ
 given i x None = []
 given i x (Some w) = if w.number == i then x ∷ [] else []
 
-owner_gives : (i : ℕ) (b : Before) (m : CutMessage) (x : ℕ) →
-    more_of i b m x ≡ given i x (owner_of_octet b m)
-unfolding more_of owner_of_octet continued given
-owner_gives i b m x = go (goes_past m) (opener_of b m)
+owner_gives : (i : ℕ) (b : OpenState) (m : CutMessage) (x : ℕ) →
+    share_of_octet i b m x ≡ given i x (owner_of_octet b m)
+unfolding share_of_octet owner_of_octet octets_if_joined_to given
+owner_gives i b m x = go (has_joined_octets m) (opener_of b m)
   where
     go : (past : Bool) (o : Option Open) →
-        (if past then continued i o (x ∷ []) else (if m.number == i then x ∷ [] else []))
+        (if past then octets_if_joined_to i o (x ∷ []) else (if m.number == i then x ∷ [] else []))
         ≡ given i x (if past then opener_key o else Some (message_key m))
     go true None = refl
     go true (Some o) = refl
     go false o = refl
 
-takes_give : (i at x : ℕ) (w : Option MessageKey) → joined i (takes_of at w x) ≡ given i x w
-unfolding takes_of given joined octet
+takes_give : (i at x : ℕ) (w : Option MessageKey) → joined_octets i (takes_of at w x) ≡ given i x w
+unfolding takes_of given joined_octets octets_of_event
 takes_give i at x None = refl
 takes_give i at x (Some w) = append-nil (if w.number == i then x ∷ [] else [])
 
 -- the events of an octet of the payload are the one by which its owner takes it, and others, which
 -- add no octet
-pub record Split (most : ℕ) (b : Before) (m : CutMessage) (x : ℕ) : Type 0 where
+pub record SplitsAtTake (most : ℕ) (before : OpenState) (message : CutMessage)
+    (x : ℕ) : Type 0 where
   pub at : ℕ
   pub rest : List Event
-  pub is : events_of_octet most b (with_octet m x)
-      ≡ takes_of at (owner_of_octet b (with_octet m x)) x ++ rest
-  pub quiet : (i : ℕ) → joined i rest ≡ []
+  pub is : events_of_octet most before (with_octet message x)
+      ≡ takes_of at (owner_of_octet before (with_octet message x)) x ++ rest
+  pub quiet : (i : ℕ) → joined_octets i rest ≡ []
 
 nothing_more : (xs ys : List ℕ) → xs ≡ xs ++ ys → ys ≡ []
 nothing_more xs ys e = sym (append_cancel_left xs [] ys (append-nil xs ∙ e))
 
-pub split : (most : ℕ) (b : Before) (m : CutMessage) (x : ℕ) → Split most b m x
+pub split : (most : ℕ) (b : OpenState) (m : CutMessage) (x : ℕ) → SplitsAtTake most b m x
 unfolding events_of_octet payload_events
 split most b m x = record { at = place m'; rest = later; is = is; quiet = quiet }
   where
@@ -147,42 +152,44 @@ split most b m x = record { at = place m'; rest = later; is = is; quiet = quiet 
     m' = with_octet m x
 
     later : List Event
-    later = (if length m'.payload == named_at m'.header
-        then naming_events most b (now_of m') (key m') (opener_of b m') else [])
+    later = (if length m'.payload == lookup_offset m'.header
+        then naming_events most b (last_octet_of m') (key m') (opener_of b m') else [])
         ++ (if length m'.payload == size m'.header then
-        message_end_events (now_of m') (opener_of b m') else [])
+        message_end_events (last_octet_of m') (opener_of b m') else [])
 
     last : get_or m'.payload (length m'.payload - 1) 0 ≡ x
     last = get_or_push m.payload x 0 (length m'.payload - 1)
         (omega (arith, length_push m.payload x))
 
-    taken : payload_events (now_of m') (opener_of b m')
+    taken : payload_events (last_octet_of m') (opener_of b m')
         ≡ takes_of (place m') (owner_of_octet b m') x
-    taken = unfold goes_past owner_of_octet takes_of own event_of_open in
-        rw last (go (is_any_fragment m'.header && nat_lt (named_at m'.header) (length m'.payload))
+    taken = unfold has_joined_octets owner_of_octet takes_of own_event event_of_open in
+        rw last (go (is_any_fragment m'.header && nat_lt (lookup_offset m'.header)
+        (length m'.payload))
         (opener_of b m'))
       where
         go : (past : Bool) (o : Option Open) →
-            (if past then event_of_open (now_of m') o (Takes x) else own (now_of m') (Takes x))
+            (if past then event_of_open (last_octet_of m') o (Takes x)
+            else own_event (last_octet_of m') (Takes x))
             ≡ takes_of (place m') (if past then opener_key o else Some (message_key m')) x
         go true None = unfold event_of_open takes_of in refl
         go true (Some o) = unfold event_of_open takes_of in refl
-        go false o = unfold own takes_of in refl
+        go false o = unfold own_event takes_of in refl
 
     is : events_of_octet most b m' ≡ takes_of (place m') (owner_of_octet b m') x ++ later
     is = rw (ne_eqb (length m'.payload) 0 (λ none. omega (arith, none, length_push m.payload x)))
         (ap (λ (es : List Event). es ++ later) taken)
 
-    quiet : (i : ℕ) → joined i later ≡ []
+    quiet : (i : ℕ) → joined_octets i later ≡ []
     quiet i =
         let takes = takes_of (place m') (owner_of_octet b m') x in
-        nothing_more (joined i takes) (joined i later)
+        nothing_more (joined_octets i takes) (joined_octets i later)
         (takes_give i (place m') x (owner_of_octet b m')
         ∙ (sym (owner_gives i b m' x) ∙ (sym (octet_joined most i b m m.payload x)
-        ∙ (ap (joined i) is ∙ joined_append i takes later))))
+        ∙ (ap (joined_octets i) is ∙ joined_append i takes later))))
 
 -- if an octet is one of a message, it is within the limit
-room_of : (o : Option StreamFault) (held : List ℕ) (number read count x : ℕ) (now : Now) →
+room_of : (o : Option StreamFault) (held : List ℕ) (number read count x : ℕ) (now : MessageOctet) →
     octet_in o held number read count x ≡ Of now → read < limit
 unfolding octet_in
 room_of (Some fault) held number read count x now e = absurd cc
@@ -202,89 +209,93 @@ module _ (C : Table) (a b : Answers) (most : ℕ) where
   B = rules_by C b most
 
   -- for a message of which this is kept, the two answers agree, or its header has not ended
-  abbrev Agree : MessageKey → Kept → Type 0
-  Agree w kept = (a w.number ≡ b w.number) ⊎ (noted_of w.header kept ≡ None)
+  abbrev AgreesForKept : (key : MessageKey) (kept : Kept) → Type 0
+  AgreesForKept w kept = (a w.number ≡ b w.number) ⊎ (noted_in_kept w.header kept ≡ None)
 
   agree_before : (w : MessageKey) (es : List Event) (kept : Kept) →
-      Agree w (kept_on w.number kept es) → Agree w kept
+      AgreesForKept w (kept_after_events w.number kept es) → AgreesForKept w kept
   agree_before w es kept (inl k) = inl k
   agree_before w es kept (inr k) = inr (on_before w.number w.header es kept k)
 
-  agree_quiet : (w : MessageKey) (es : List Event) (kept : Kept) → joined w.number es ≡ [] →
-      Agree w kept → Agree w (kept_on w.number kept es)
+  agree_quiet : (w : MessageKey) (es : List Event) (kept : Kept) → joined_octets w.number es ≡ [] →
+      AgreesForKept w kept → AgreesForKept w (kept_after_events w.number kept es)
   agree_quiet w es kept none (inl k) = inl k
   agree_quiet w es kept none (inr k) = inr (quiet_on w.number w.header es kept none ∙ k)
 
   -- the same for each message of which something is kept, after these events
-  abbrev Fine : KeptByNumber → List Event → MessageKey → Type 0
-  Fine known es w = (kept : Kept) → known w.number ≡ Some kept → Agree w (kept_on w.number kept es)
+  abbrev AgreesAfterEvents : (known : KeptByNumber) (es : List Event) (key : MessageKey) → Type 0
+  AgreesAfterEvents known es w = (kept : Kept) → known w.number ≡ Some kept →
+      AgreesForKept w (kept_after_events w.number kept es)
 
   -- ---- the effects of events
 
   says_agree : (e : Event) (o : Option Kept) →
-      ((kept : Kept) → o ≡ Some kept → Agree e.subject (kept_then e.what kept))
+      ((kept : Kept) → o ≡ Some kept → AgreesForKept e.subject (kept_after_event e.what kept))
       → lines_for (message_reader C a) e o ≡ lines_for (message_reader C b) e o
   unfolding lines_for
   says_agree e None h = refl
   says_agree e (Some kept) h = tells_agree C a b e kept e.what (h kept refl)
 
   own_on : (e : Event) (es : List Event) (kept : Kept) →
-      kept_on e.subject.number kept (e ∷ es)
-      ≡ kept_on e.subject.number (kept_then e.what kept) es
-  unfolding kept_on
+      kept_after_events e.subject.number kept (e ∷ es)
+      ≡ kept_after_events e.subject.number (kept_after_event e.what kept) es
+  unfolding kept_after_events
   own_on e es kept =
-      ap (λ (mine : Bool). kept_on e.subject.number
-      (if mine then kept_then e.what kept else kept) es)
+      ap (λ (mine : Bool). kept_after_events e.subject.number
+      (if mine then kept_after_event e.what kept else kept) es)
       (eq-eqb e.subject.number e.subject.number refl)
 
-  first_agree : (c : Tracked) (e : Event) (es : List Event) → Fine c.known (e ∷ es) e.subject →
+  first_agree : (c : Tracked) (e : Event) (es : List Event) →
+      AgreesAfterEvents c.known (e ∷ es) e.subject →
       lines_at (message_reader C a) c.known e ≡ lines_at (message_reader C b) c.known e
   unfolding lines_at
   first_agree c e es h =
       rw (says_agree e (c.known e.subject.number) (λ kept k.
-      agree_before e.subject es (kept_then e.what kept)
-      (subst (Agree e.subject) (own_on e es kept) (h kept k)))) refl
+      agree_before e.subject es (kept_after_event e.what kept)
+      (subst (AgreesForKept e.subject) (own_on e es kept) (h kept k)))) refl
 
   fine_later : (c : Tracked) (e : Event) (es : List Event) (R : MessageReader) (w : MessageKey) →
-      Fine c.known (e ∷ es) w → Fine (tracked_at R c e).known es w
-  unfolding tracked_at kept_on
+      AgreesAfterEvents c.known (e ∷ es) w → AgreesAfterEvents
+      (tracked_after_event R c e).known es w
+  unfolding tracked_after_event kept_after_events
   fine_later c e es R w h now k =
       let was = kept_was c.known e (lines_at R c.known e) w.number now k in
-      subst (λ (z : Kept). Agree w (kept_on w.number z es)) (sym was.is) (h was.kept was.known)
+      subst (λ (z : Kept). AgreesForKept w (kept_after_events w.number z es)) (sym was.is)
+      (h was.kept was.known)
 
   tracked_agree : (c : Tracked) (e : Event) →
       lines_at (message_reader C a) c.known e ≡ lines_at (message_reader C b) c.known e →
-      tracked_at (message_reader C a) c e ≡ tracked_at (message_reader C b) c e
-  unfolding tracked_at
+      tracked_after_event (message_reader C a) c e ≡ tracked_after_event (message_reader C b) c e
+  unfolding tracked_after_event
   tracked_agree c e one = rw one refl
 
   effects_agree : (es : List Event) (c : Tracked) →
-      Each (λ e. Fine c.known es e.subject) es →
+      Each (λ e. AgreesAfterEvents c.known es e.subject) es →
       effects (message_reader C a) c es ≡ effects (message_reader C b) c es
   unfolding effects
   effects_agree [] c h = refl
   effects_agree (e ∷ es) c h =
       let one = first_agree c e es h.0 in
       let next = tracked_agree c e one in
-      let more = effects_agree es (tracked_at (message_reader C a) c e)
-      (each_weaker (λ e'. Fine c.known (e ∷ es) e'.subject)
-      (λ e'. Fine (tracked_at (message_reader C a) c e).known es e'.subject)
+      let more = effects_agree es (tracked_after_event (message_reader C a) c e)
+      (each_weaker (λ e'. AgreesAfterEvents c.known (e ∷ es) e'.subject)
+      (λ e'. AgreesAfterEvents (tracked_after_event (message_reader C a) c e).known es e'.subject)
       (λ e' k. fine_later c e es (message_reader C a) e'.subject k) es h.1)
       ∙ ap (λ (c' : Tracked). effects (message_reader C b) c' es) next in
       λ j. record { tracked = (more j).tracked; lines = one j ++ (more j).lines }
 
   -- ---- a stream that both answers read alike
 
-  abbrev KeptAlike : List ℕ → MessageKey → Type 0
-  KeptAlike p w = (kept : Kept) → known_of A p w.number ≡ Some kept → Agree w kept
+  abbrev KeptAlike : (stream : List ℕ) (key : MessageKey) → Type 0
+  KeptAlike p w = (kept : Kept) → known_of A p w.number ≡ Some kept → AgreesForKept w kept
 
-  pub record Alike (p : List ℕ) : Type 0 where
+  pub record AreAlikeOver (p : List ℕ) : Type 0 where
     pub lines_same : lines A p ≡ lines B p
     pub tracked_same : tracked_after A p ≡ tracked_after B p
     pub events_same : events A p ≡ events B p
     pub kept_alike : Each (λ e. KeptAlike p e.subject) (events A p)
 
-  pub start : Alike []
+  pub start : AreAlikeOver []
   unfolding tracked_after before_by
   start =
       let both = events_nothing A ∙ sym (events_nothing B) in
@@ -292,7 +303,7 @@ module _ (C : Table) (a b : Answers) (most : ℕ) where
         lines_same = lines_nothing A ∙ sym (lines_nothing B);
         tracked_same = λ j. record {
           still_open = (open_nothing A ∙ sym (open_nothing B)) j;
-          mixed = not (joins_by C) || list_any mixes (both j);
+          mixed = not (joins_by C) || list_any ends_joining (both j);
           known = λ i. (known_nothing A i ∙ sym (known_nothing B i)) j;
         };
         events_same = both;
@@ -306,17 +317,18 @@ module _ (C : Table) (a b : Answers) (most : ℕ) where
   sound_b = sound B (is_causal (λ phase number. signatures_of C (b number) phase)) (in_turn C b)
 
   -- the request id that a message has given
-  asks_agree : (w : MessageKey) (kept : Kept) → Agree w kept →
+  asks_agree : (w : MessageKey) (kept : Kept) → AgreesForKept w kept →
       asks_by C a kept.phase w.number w.header kept.octets
       ≡ asks_by C b kept.phase w.number w.header kept.octets
   unfolding asks_by
   asks_agree w kept (inl k) = ap (λ (answer : Answer). first_request_id (message_lines
-      (message (signatures_of C answer kept.phase) w.header kept.octets))) k
+      (read_message (signatures_of C answer kept.phase) w.header kept.octets))) k
   asks_agree w kept (inr k) = ap (λ (m : MessageReading). first_request_id (message_lines m))
       (unended_agree C (a w.number) (b w.number) kept.phase w.header kept.octets k)
 
   -- what stands before the next octet is the same by both answers
-  pub before_same : (p : List ℕ) → Alike p → before_by A (events A p) ≡ before_by B (events B p)
+  pub before_same : (p : List ℕ) → AreAlikeOver p → before_by A (events A p) ≡ before_by B
+      (events B p)
   unfolding before_in tracked_after
   before_same p h =
       sym (before_is A p (sound_a p))
@@ -331,21 +343,24 @@ module _ (C : Table) (a b : Answers) (most : ℕ) where
       each = unfold open_after in opened_each (KeptAlike p) [] (events A p) tt h.kept_alike
 
       by : (o : Open) → KeptAlike p o.opener →
-          asked_by (asks_by C a) (known_of A p) (Some o)
-          ≡ asked_by (asks_by C b) (known_of A p) (Some o)
+          given_id_of_open (asks_by C a) (known_of A p) (Some o)
+          ≡ given_id_of_open (asks_by C b) (known_of A p) (Some o)
       by o alike = go (known_of A p o.opener.number) refl
         where
           go : (k : Option Kept) → known_of A p o.opener.number ≡ k →
-              asked_in (asks_by C a) o.opener k ≡ asked_in (asks_by C b) o.opener k
+              given_id (asks_by C a) o.opener k ≡ given_id (asks_by C b) o.opener k
           go None e = refl
           go (Some kept) e = asks_agree o.opener kept (alike kept e)
 
-      asked : asked_by (asks_by C a) (known_of A p) (find (λ o. is_none o.key) (open_after A p))
-          ≡ asked_by (asks_by C b) (known_of A p) (find (λ o. is_none o.key) (open_after A p))
+      asked : given_id_of_open (asks_by C a) (known_of A p) (find (λ o. is_none o.key)
+          (open_after A p))
+          ≡ given_id_of_open (asks_by C b) (known_of A p) (find (λ o. is_none o.key)
+          (open_after A p))
       asked = go (find (λ o. is_none o.key) (open_after A p)) refl
         where
           go : (o : Option Open) → find (λ o. is_none o.key) (open_after A p) ≡ o →
-              asked_by (asks_by C a) (known_of A p) o ≡ asked_by (asks_by C b) (known_of A p) o
+              given_id_of_open (asks_by C a) (known_of A p) o ≡ given_id_of_open (asks_by C b)
+              (known_of A p) o
           go None e = refl
           go (Some o) e = by o (found_in (λ o. KeptAlike p o.opener) (λ o. is_none o.key)
               (open_after A p) o each e)
@@ -356,10 +371,10 @@ module _ (C : Table) (a b : Answers) (most : ℕ) where
   known_same p c i e = ap (λ (t : Tracked). t.known i) e
 
   -- the next octet is one of no message
-  idle : (p : List ℕ) (x : ℕ) (c : Cut) (ls : List StreamLine) → Alike p →
-      Adds A p (p ++ x ∷ []) c ls (tracked_after A p) →
-      Adds B p (p ++ x ∷ []) c ls (tracked_after B p) → messages c ≡ messages (cut p) →
-      Alike (p ++ x ∷ [])
+  idle : (p : List ℕ) (x : ℕ) (c : Cut) (ls : List StreamLine) → AreAlikeOver p →
+      AddsLinesAndState A p (p ++ x ∷ []) c ls (tracked_after A p) →
+      AddsLinesAndState B p (p ++ x ∷ []) c ls (tracked_after B p) → messages c ≡ messages (cut p) →
+      AreAlikeOver (p ++ x ∷ [])
   unfolding events tracked_after
   idle p x c ls h f g same =
       let still : events A (p ++ x ∷ []) ≡ events A p =
@@ -378,8 +393,8 @@ module _ (C : Table) (a b : Answers) (most : ℕ) where
       }
 
   -- the same for a message after an octet with these events
-  abbrev NowAlike : List ℕ → List Event → MessageKey → Type 0
-  NowAlike p es w = Fine (known_of A p) es w
+  abbrev NowAlike : (stream : List ℕ) (es : List Event) (key : MessageKey) → Type 0
+  NowAlike p es w = AgreesAfterEvents (known_of A p) es w
 
   then_alike : (p p' : List ℕ) (es : List Event) (w : MessageKey) →
       tracked_after A p' ≡ (effects (message_reader C a) (tracked_after A p) es).tracked →
@@ -389,7 +404,7 @@ module _ (C : Table) (a b : Answers) (most : ℕ) where
       let was = effects_was (message_reader C a) es (tracked_after A p) w.number now
       (sym (known_same p' (effects (message_reader C a) (tracked_after A p) es).tracked w.number e)
       ∙ known) in
-      subst (Agree w) (sym was.is) (h was.kept was.known)
+      subst (AgreesForKept w) (sym was.is) (h was.kept was.known)
 
   now_agree : (p : List ℕ) (es : List Event) → Each (λ e. NowAlike p es e.subject) es →
       effects (message_reader C a) (tracked_after A p) es
@@ -397,14 +412,16 @@ module _ (C : Table) (a b : Answers) (most : ℕ) where
   unfolding tracked_after
   now_agree p es new = effects_agree es (tracked_after A p) new
 
-  dealt : (p : List ℕ) (x : ℕ) (c c' : Cut) (es : List Event) → Alike p →
+  dealt : (p : List ℕ) (x : ℕ) (c c' : Cut) (es : List Event) → AreAlikeOver p →
       events A (p ++ x ∷ []) ≡ events A p ++ es → events B (p ++ x ∷ []) ≡ events B p ++ es →
-      Adds A p (p ++ x ∷ []) c (effects (message_reader C a) (tracked_after A p) es).lines
+      AddsLinesAndState A p (p ++ x ∷ []) c (effects (message_reader C a)
+      (tracked_after A p) es).lines
       (effects (message_reader C a) (tracked_after A p) es).tracked →
-      Adds B p (p ++ x ∷ []) c' (effects (message_reader C b) (tracked_after B p) es).lines
+      AddsLinesAndState B p (p ++ x ∷ []) c' (effects (message_reader C b)
+      (tracked_after B p) es).lines
       (effects (message_reader C b) (tracked_after B p) es).tracked →
       Each (λ e. NowAlike p es e.subject) (events A p) → Each (λ e. NowAlike p es e.subject) es →
-      Alike (p ++ x ∷ [])
+      AreAlikeOver (p ++ x ∷ [])
   dealt p x c c' es h grows grows_b f g old new =
       let same : effects (message_reader C a) (tracked_after A p) es
       ≡ effects (message_reader C b) (tracked_after B p) es =
@@ -425,25 +442,26 @@ module _ (C : Table) (a b : Answers) (most : ℕ) where
 
   -- ---- the message to which the octet belongs
 
-  one_message : (p : List ℕ) (x : ℕ) (now : Now) (h : IsOf A p x now) (k : IsOf B p x now) →
+  one_message : (p : List ℕ) (x : ℕ) (now : MessageOctet) (h : IsOctetOfMessage A p x now)
+      (k : IsOctetOfMessage B p x now) →
       h.m ≡ k.m
   unfolding place
   one_message p x now h k = go h.from k.from
     where
-      Origin : CutMessage → Type 0
-      Origin m = (((cut p).current ≡ None) × (m.payload ≡ []))
+      IsNewOrContinued : CutMessage → Type 0
+      IsNewOrContinued m = (((cut p).current ≡ None) × (m.payload ≡ []))
           ⊎ ((was : CutMessage) × ((cut p).current ≡ Some was) × (m ≡ with_octet was x))
 
       number : h.m.number ≡ k.m.number
       number = h.number_is ∙ sym k.number_is
 
       header : h.m.header ≡ k.m.header
-      header = ap (λ (n : Now). n.subject.header) (h.is_now ∙ sym k.is_now)
+      header = ap (λ (n : MessageOctet). n.subject.header) (h.is_now ∙ sym k.is_now)
 
       before : h.m.payload ≡ k.m.payload → h.m.before ≡ k.m.before
       before e = omega (arith, h.place_is, k.place_is, ap length e)
 
-      go : Origin h.m → Origin k.m → h.m ≡ k.m
+      go : IsNewOrContinued h.m → IsNewOrContinued k.m → h.m ≡ k.m
       go (inl f) (inl g) =
           let payload = f.1 ∙ sym g.1 in
           λ j. record {
@@ -462,20 +480,20 @@ module _ (C : Table) (a b : Answers) (most : ℕ) where
   -- ---- an octet of a payload
 
   -- what stands before the next octet, by the first answers
-  abbrev Stands : List ℕ → Before
-  Stands p = before_by A (events A p)
+  abbrev open_state_of : (stream : List ℕ) → OpenState
+  open_state_of p = before_by A (events A p)
 
   module _ (p : List ℕ) (x : ℕ) (was : CutMessage) (free : (cut p).stop ≡ None)
       (current : (cut p).current ≡ Some was) (room : length p < limit)
       (ends : Each (AnswersAlike a b) (header_ends_at A p x)) where
     abbrev Es : List Event
-    Es = events_of_octet most (Stands p) (with_octet was x)
+    Es = events_of_octet most (open_state_of p) (with_octet was x)
 
     abbrev Owner : Option MessageKey
-    Owner = owner_of_next (Stands p) was
+    Owner = owner_of_next (open_state_of p) was
 
-    parts : Split most (Stands p) was x
-    parts = split most (Stands p) was x
+    parts : SplitsAtTake most (open_state_of p) was x
+    parts = split most (open_state_of p) was x
 
     here : (w : MessageKey) (kept : Kept) → Owner ≡ Some w → known_of A p w.number ≡ Some kept →
         header_ends_at A p x ≡ header_ends kept.phase w.number w.header kept.octets (x ∷ [])
@@ -483,8 +501,9 @@ module _ (C : Table) (a b : Answers) (most : ℕ) where
     here w kept owner known = at_free A p x free room ∙ rw (current, owner, known) refl
 
     own_alike : (w : MessageKey) (kept : Kept) → Owner ≡ Some w →
-        known_of A p w.number ≡ Some kept → Agree w kept → Agree w (kept_then (Takes x) kept)
-    unfolding octet
+        known_of A p w.number ≡ Some kept → AgreesForKept w kept →
+        AgreesForKept w (kept_after_event (Takes x) kept)
+    unfolding octets_of_event
     own_alike w kept owner known (inl k) = inl k
     own_alike w kept owner known (inr k) =
         elim (header_ended (AnswersAlike a b) kept.phase w.number w.header kept.octets (x ∷ []) k
@@ -497,16 +516,16 @@ module _ (C : Table) (a b : Answers) (most : ℕ) where
     taken_alike : (v : MessageKey) → header_of_number (messages (cut p)) v.number ≡ Some v.header →
         KeptAlike p v → (o : Option MessageKey) → Owner ≡ o → (kept : Kept) →
         known_of A p v.number ≡ Some kept →
-        Agree v (kept_on v.number kept (takes_of parts.at o x))
-    unfolding kept_on takes_of
-    taken_alike v own h None owner kept known = h kept known
-    taken_alike v own h (Some w) owner kept known = by (w.number == v.number) refl
+        AgreesForKept v (kept_after_events v.number kept (takes_of parts.at o x))
+    unfolding kept_after_events takes_of
+    taken_alike v each_alike h None owner kept known = h kept known
+    taken_alike v each_alike h (Some w) owner kept known = by (w.number == v.number) refl
       where
         key_is : (w v : MessageKey) → w.number ≡ v.number → w.header ≡ v.header → w ≡ v
         key_is w v e f = λ j. record { number = e j; header = f j }
 
         by : (mine : Bool) → (w.number == v.number) ≡ mine →
-            Agree v (if mine then kept_then (Takes x) kept else kept)
+            AgreesForKept v (if mine then kept_after_event (Takes x) kept else kept)
         by false e = h kept known
         by true e =
             let number : w.number ≡ v.number = eqb-true w.number v.number e in
@@ -514,82 +533,85 @@ module _ (C : Table) (a b : Answers) (most : ℕ) where
             of_owner (λ u. header_of_number (messages (cut p)) u.number ≡ Some u.header) A p w
             (rw current owner) (one_header A p) in
             let header : Some w.header ≡ Some v.header =
-            sym found ∙ (ap (header_of_number (messages (cut p))) number ∙ own) in
+            sym found ∙ (ap (header_of_number (messages (cut p))) number ∙ each_alike) in
             let is : w ≡ v = key_is w v number cc in
             own_alike v kept (owner ∙ ap Some is) known (h kept known)
 
     paid_alike : (v : MessageKey) → header_of_number (messages (cut p)) v.number ≡ Some v.header →
         KeptAlike p v → NowAlike p Es v
-    paid_alike v own h kept known =
-        let owner = owner_next (Stands p) was x in
-        let takes = takes_of parts.at (owner_of_octet (Stands p) (with_octet was x)) x in
-        let one : Agree v (kept_on v.number kept takes) =
-        subst (λ (o : Option MessageKey). Agree v (kept_on v.number kept (takes_of parts.at o x)))
-        (sym owner) (taken_alike v own h Owner refl kept known) in
-        subst (λ (es : List Event). Agree v (kept_on v.number kept es)) (sym parts.is)
-        (subst (Agree v) (sym (kept_on_append v.number takes parts.rest kept))
-        (agree_quiet v parts.rest (kept_on v.number kept takes) (parts.quiet v.number) one))
+    paid_alike v each_alike h kept known =
+        let owner = owner_next (open_state_of p) was x in
+        let takes = takes_of parts.at (owner_of_octet (open_state_of p) (with_octet was x)) x in
+        let one : AgreesForKept v (kept_after_events v.number kept takes) =
+        subst (λ (o : Option MessageKey). AgreesForKept v (kept_after_events v.number kept
+        (takes_of parts.at o x)))
+        (sym owner) (taken_alike v each_alike h Owner refl kept known) in
+        subst (λ (es : List Event). AgreesForKept v (kept_after_events v.number kept es))
+        (sym parts.is)
+        (subst (AgreesForKept v) (sym (kept_on_append v.number takes parts.rest kept))
+        (agree_quiet v parts.rest (kept_after_events v.number kept takes)
+        (parts.quiet v.number) one))
 
   -- ---- one octet
 
   -- an octet of a message: if the events before the octet have this, so have the events of the
   -- octet
   of_events : (p : List ℕ) (m : CutMessage) →
-      (let es = events_of_octet most (Stands p) m in
+      (let es = events_of_octet most (open_state_of p) m in
       Each (λ e. NowAlike p es e.subject) (events A p) → NowAlike p es (message_key m) →
       Each (λ e. NowAlike p es e.subject) es)
   unfolding before_by
-  of_events p m old own =
-      let es = events_of_octet most (Stands p) m in
-      events_of_octet_each most (λ e. NowAlike p es e.subject) (Stands p) m
-      (λ what. own)
+  of_events p m old each_alike =
+      let es = events_of_octet most (open_state_of p) m in
+      events_of_octet_each most (λ e. NowAlike p es e.subject) (open_state_of p) m
+      (λ what. each_alike)
       (each_weaker (λ (o : Open). NowAlike p es o.opener)
       (λ (o : Open). (what : EventKind) → NowAlike p es o.opener) (λ o k what. k)
-      (Stands p).still_open
+      (open_state_of p).still_open
       (opened_each (NowAlike p es) [] (events A p) tt old))
 
   -- the last octet of a message's header
-  begun_alike : (p : List ℕ) (m : CutMessage) → Alike p → m.payload ≡ [] →
+  begun_alike : (p : List ℕ) (m : CutMessage) → AreAlikeOver p → m.payload ≡ [] →
       known_of A p m.number ≡ Some nothing_kept →
-      (let es = events_of_octet most (Stands p) m in
+      (let es = events_of_octet most (open_state_of p) m in
       Each (λ e. NowAlike p es e.subject) (events A p)
       × NowAlike p es (message_key m))
   begun_alike p m h none unknown =
-      let es = events_of_octet most (Stands p) m in (
+      let es = events_of_octet most (open_state_of p) m in (
         each_weaker (λ e. KeptAlike p e.subject) (λ e. NowAlike p es e.subject)
             (λ e k kept known. agree_quiet e.subject es kept
-            (header_joined most e.subject.number (Stands p) m none) (k kept known))
+            (header_joined most e.subject.number (open_state_of p) m none) (k kept known))
             (events A p) h.kept_alike,
         λ kept known. agree_quiet (message_key m) es kept
-            (header_joined most m.number (Stands p) m none)
+            (header_joined most m.number (open_state_of p) m none)
             (inr (let both : Some nothing_kept ≡ Some kept = sym unknown ∙ known in
             let empty : nothing_kept ≡ kept = cc in
-            subst (λ (z : Kept). noted_of m.header z ≡ None) empty (not_noted m.header))),
+            subst (λ (z : Kept). noted_in_kept m.header z ≡ None) empty (not_noted m.header))),
       )
 
   -- an octet of the message's payload
-  paid_old : (p : List ℕ) (x : ℕ) (was : CutMessage) → Alike p → (cut p).stop ≡ None →
+  paid_old : (p : List ℕ) (x : ℕ) (was : CutMessage) → AreAlikeOver p → (cut p).stop ≡ None →
       (cut p).current ≡ Some was → length p < limit →
       Each (AnswersAlike a b) (header_ends_at A p x) →
-      (let es = events_of_octet most (Stands p) (with_octet was x) in
+      (let es = events_of_octet most (open_state_of p) (with_octet was x) in
       Each (λ e. NowAlike p es e.subject) (events A p)
       × NowAlike p es (message_key was))
   unfolding events messages
   paid_old p x was h free current room ends =
-      let es = events_of_octet most (Stands p) (with_octet was x) in
+      let es = events_of_octet most (open_state_of p) (with_octet was x) in
       let old = go (events A p) h.kept_alike (one_header A p) in
-      let own = each_parts (λ m. NowAlike p es (message_key m)) (cut p).whole
+      let each_alike = each_parts (λ m. NowAlike p es (message_key m)) (cut p).whole
       (option_to_list (cut p).current)
       (each_own (NowAlike p es) A [] (messages (cut p)) old) in (
         old,
         (subst (λ (o : Option CutMessage). Each (λ m. NowAlike p es (message_key m))
-            (option_to_list o)) current own.1).0,
+            (option_to_list o)) current each_alike.1).0,
       )
     where
       go : (some : List Event) → Each (λ e. KeptAlike p e.subject) some →
           Each (λ e. header_of_number (messages (cut p)) e.subject.number
           ≡ Some e.subject.header) some →
-          Each (λ e. NowAlike p (events_of_octet most (Stands p) (with_octet was x))
+          Each (λ e. NowAlike p (events_of_octet most (open_state_of p) (with_octet was x))
           e.subject) some
       go [] k l = tt
       go (e ∷ some) k l = (
@@ -597,31 +619,33 @@ module _ (C : Table) (a b : Answers) (most : ℕ) where
         go some k.1 l.1,
       )
 
-  of_message : (p : List ℕ) (x : ℕ) (now : Now) → Alike p → (cut p).stop ≡ None →
-      length p < limit → Each (AnswersAlike a b) (header_ends_at A p x) → IsOf A p x now →
-      IsOf B p x now → Alike (p ++ x ∷ [])
+  of_message : (p : List ℕ) (x : ℕ) (now : MessageOctet) → AreAlikeOver p → (cut p).stop ≡ None →
+      length p < limit → Each (AnswersAlike a b) (header_ends_at A p x) →
+      IsOctetOfMessage A p x now →
+      IsOctetOfMessage B p x now → AreAlikeOver (p ++ x ∷ [])
   unfolding messages
   of_message p x now h free room ends f g = go f.from
     where
       es : List Event
-      es = events_of_octet most (Stands p) f.m
+      es = events_of_octet most (open_state_of p) f.m
 
       same : events_of_octet most (before_by B (events B p)) g.m ≡ es
       same = λ j. events_of_octet most (sym (before_same p h) j) (sym (one_message p x now f g) j)
 
       by : Each (λ e. NowAlike p es e.subject) (events A p) →
-          NowAlike p es (message_key f.m) → Alike (p ++ x ∷ [])
-      by old own =
+          NowAlike p es (message_key f.m) → AreAlikeOver (p ++ x ∷ [])
+      by old each_alike =
           dealt p x _ _ es h f.grows (g.grows ∙ ap (λ (z : List Event). events B p ++ z) same)
           f.adds
-          (subst (λ (z : List Event). Adds B p (p ++ x ∷ []) (end_message (cut p).whole g.m)
+          (subst (λ (z : List Event). AddsLinesAndState B p (p ++ x ∷ []) (cut_with_last_message
+          (cut p).whole g.m)
           (effects (message_reader C b) (tracked_after B p) z).lines
           (effects (message_reader C b) (tracked_after B p) z).tracked) same g.adds)
-          old (of_events p f.m old own)
+          old (of_events p f.m old each_alike)
 
       go : (((cut p).current ≡ None) × (f.m.payload ≡ []))
           ⊎ ((was : CutMessage) × ((cut p).current ≡ Some was) × (f.m ≡ with_octet was x)) →
-          Alike (p ++ x ∷ [])
+          AreAlikeOver (p ++ x ∷ [])
       go (inl k) =
           let count : length (messages (cut p)) ≡ length (cut p).whole =
           rw k.0 (ap length (append-nil (cut p).whole)) in
@@ -633,15 +657,16 @@ module _ (C : Table) (a b : Answers) (most : ℕ) where
           let both = paid_old p x k.0 h free k.1 room ends in
           by
           (subst (λ (m : CutMessage). Each (λ e. NowAlike p
-          (events_of_octet most (Stands p) m) e.subject) (events A p)) (sym k.2) both.0)
-          (subst (λ (m : CutMessage). NowAlike p (events_of_octet most (Stands p) m)
+          (events_of_octet most (open_state_of p) m) e.subject) (events A p)) (sym k.2) both.0)
+          (subst (λ (m : CutMessage). NowAlike p (events_of_octet most (open_state_of p) m)
           (message_key m)) (sym k.2) both.1)
 
   -- ---- the events after the next octet
 
   -- the next octet has the same events by both answers, since they rest on what came before it
-  pub next_same : (p : List ℕ) (x : ℕ) → Alike p → events A (p ++ x ∷ []) ≡ events B (p ++ x ∷ [])
-  unfolding events messages stopped_at of_parts
+  pub next_same : (p : List ℕ) (x : ℕ) → AreAlikeOver p →
+      events A (p ++ x ∷ []) ≡ events B (p ++ x ∷ [])
+  unfolding events messages cut_stopped_at cut_of_parts
   next_same p x h =
       go (octet_of (cut p) (length p) x)
       (then_is A (is_causal (λ phase number. signatures_of C (a number) phase)) (in_turn C a) p x
@@ -653,7 +678,7 @@ module _ (C : Table) (a b : Answers) (most : ℕ) where
           events A (p ++ x ∷ []) ≡ events B (p ++ x ∷ [])
       none e = ap (events_from A []) e ∙ (h.events_same ∙ ap (events_from B []) (sym e))
 
-      go : (o : Octet) → Then A p x o → Then B p x o →
+      go : (o : OctetKind) → IsStateThen A p x o → IsStateThen B p x o →
           events A (p ++ x ∷ []) ≡ events B (p ++ x ∷ [])
       go AfterStop f g = none (ap messages f.2.cut_is)
       go (Ends fault) f g = none (ap messages f.1.cut_is)
@@ -663,9 +688,10 @@ module _ (C : Table) (a b : Answers) (most : ℕ) where
           ++ events_of_octet most (before_same p h j) (one_message p x now f.1 g.1 j))
           ∙ sym g.1.grows)
 
-  pub step : (p : List ℕ) (x : ℕ) → Alike p → Each (AnswersAlike a b) (header_ends_at A p x) →
-      Alike (p ++ x ∷ [])
-  unfolding messages stopped_at of_parts octet_of
+  pub step : (p : List ℕ) (x : ℕ) → AreAlikeOver p → Each (AnswersAlike a b)
+      (header_ends_at A p x) →
+      AreAlikeOver (p ++ x ∷ [])
+  unfolding messages cut_stopped_at cut_of_parts octet_of
   step p x h ends =
       let ca = is_causal (λ phase number. signatures_of C (a number) phase) in
       let cb = is_causal (λ phase number. signatures_of C (b number) phase) in
@@ -673,14 +699,15 @@ module _ (C : Table) (a b : Answers) (most : ℕ) where
       (then_is A ca (in_turn C a) p x (sound A ca (in_turn C a) p))
       (then_is B cb (in_turn C b) p x (sound B cb (in_turn C b) p))
     where
-      go : (o : Octet) → octet_of (cut p) (length p) x ≡ o → Then A p x o → Then B p x o →
-          Alike (p ++ x ∷ [])
+      go : (o : OctetKind) → octet_of (cut p) (length p) x ≡ o → IsStateThen A p x o →
+          IsStateThen B p x o →
+          AreAlikeOver (p ++ x ∷ [])
       go AfterStop is f g = idle p x (cut p) [] h f.2 g.2 refl
       go (Ends fault) is f g =
-          idle p x (stopped_at (suc (length p)) fault (cut p))
+          idle p x (cut_stopped_at (suc (length p)) fault (cut p))
           (stop_line (Some (suc (length p), fault))) h f.1 g.1 refl
       go (Held front) is f g =
-          idle p x (of_parts (cut p).whole None front None) [] h f.2 g.2
+          idle p x (cut_of_parts (cut p).whole None front None) [] h f.2 g.2
           (rw f.1 refl)
       go (Of now) is f g =
           of_message p x now h f.0
@@ -690,17 +717,17 @@ module _ (C : Table) (a b : Answers) (most : ℕ) where
 
   -- ---- a whole stream
 
-  alike_from : (q p : List ℕ) → Alike p → Each (AnswersAlike a b) (header_ends_from A p q) →
-      Alike (p ++ q)
+  alike_from : (q p : List ℕ) → AreAlikeOver p → Each (AnswersAlike a b) (header_ends_from A p q) →
+      AreAlikeOver (p ++ q)
   unfolding header_ends_from
   alike_from [] p h ends = rw (append-nil p) h
   alike_from (x ∷ q) p h ends =
       let parts = each_parts (AnswersAlike a b) (header_ends_at A p x)
       (header_ends_from A (p ++ x ∷ []) q) ends in
-      subst Alike (append_assoc p (x ∷ []) q)
+      subst AreAlikeOver (append_assoc p (x ∷ []) q)
       (alike_from q (p ++ x ∷ []) (step p x h parts.0) parts.1)
 
-  pub alike : (p : List ℕ) → AgreeAtHeaders C most p a b → Alike p
+  pub alike : (p : List ℕ) → AgreeAtHeaders C most p a b → AreAlikeOver p
   alike p h = alike_from p [] start h
 
   -- a stream has the same text by both answers
@@ -710,7 +737,7 @@ module _ (C : Table) (a b : Answers) (most : ℕ) where
 
   -- a stream has the same state by both answers
   pub state_alike : (p : List ℕ) → AgreeAtHeaders C most p a b → state_of A p ≡ state_of B p
-  unfolding state_of tally
+  unfolding state_of totals_so_far
   state_alike p h =
       let all = alike p h in
       let owner = before_same p all in
@@ -718,15 +745,15 @@ module _ (C : Table) (a b : Answers) (most : ℕ) where
 
   -- an engine keeps the same of a message by both answers
   same_for : (p : List ℕ) (w : MessageKey) → KeptAlike p w →
-      IsSame C a b w (known_of A p w.number)
+      AgreesIfKept C a b w (known_of A p w.number)
   same_for p w h = go (known_of A p w.number) refl
     where
-      go : (o : Option Kept) → known_of A p w.number ≡ o → IsSame C a b w o
+      go : (o : Option Kept) → known_of A p w.number ≡ o → AgreesIfKept C a b w o
       go None e = tt
       go (Some kept) e = h kept e
 
   slots_same : (p : List ℕ) (os : List Open) → Each (λ o. KeptAlike p o.opener) os
-      → Each (λ slot. IsSame C a b slot.open_as.opener slot.kept) (slots_of (known_of A p) os)
+      → Each (λ slot. AgreesIfKept C a b slot.open_as.opener slot.kept) (slots_of (known_of A p) os)
   unfolding slots_of
   slots_same p [] k = tt
   slots_same p (o ∷ os) k = (same_for p o.opener k.0, slots_same p os k.1)
@@ -746,7 +773,7 @@ module _ (C : Table) (a b : Answers) (most : ℕ) where
   closing_alike p h =
       finish_is A (is_causal (λ phase number. signatures_of C (a number) phase)) (in_turn C a)
       (is_ending (λ phase number. signatures_of C (a number) phase)) p
-      ∙ (ap finish (state_alike p h)
+      ∙ (ap text_at_finish (state_alike p h)
       ∙ sym (finish_is B (is_causal (λ phase number. signatures_of C (b number) phase))
       (in_turn C b)
       (is_ending (λ phase number. signatures_of C (b number) phase)) p))
@@ -759,19 +786,21 @@ module _ (C : Table) (a b : Answers) (most : ℕ) where
       p))
 
   -- the same headers end in the next octets by both answers
-  current_alike : (p octets : List ℕ) (current : Option CutMessage) → Alike p →
+  current_alike : (p octets : List ℕ) (current : Option CutMessage) → AreAlikeOver p →
       current_header_ends A p current octets ≡ current_header_ends B p current octets
   current_alike p octets None h = refl
   current_alike p octets (Some m) h =
       λ j. owner_header_ends (h.tracked_same j) (owner_of_next (before_same p h j) m) octets
 
-  pub ends_at_alike : (p : List ℕ) (x : ℕ) → Alike p → header_ends_at A p x ≡ header_ends_at B p x
+  pub ends_at_alike : (p : List ℕ) (x : ℕ) → AreAlikeOver p →
+      header_ends_at A p x ≡ header_ends_at B p x
   unfolding header_ends_at
   ends_at_alike p x h =
       ap (λ (es : List HeaderEnd). if is_none (cut p).stop && nat_lt (length p) limit then es
       else []) (current_alike p (x ∷ []) (cut p).current h)
 
-  ends_from_alike : (q p : List ℕ) → Alike p → Each (AnswersAlike a b) (header_ends_from A p q) →
+  ends_from_alike : (q p : List ℕ) → AreAlikeOver p → Each (AnswersAlike a b)
+      (header_ends_from A p q) →
       header_ends_from A p q ≡ header_ends_from B p q
   unfolding header_ends_from
   ends_from_alike [] p h ends = refl
@@ -819,7 +848,7 @@ module _ (C : Table) (a b : Answers) (most : ℕ) where
           (after_event notified st (call_event C (Exception_end number name))) f.1 g.1,
     )
 
-    leads : (q p : List ℕ) (st : St) → Alike p →
+    leads : (q p : List ℕ) (st : St) → AreAlikeOver p →
         AgreesAtEnds answer notified C st a (header_ends_from A p q) →
         AgreesAtEnds answer notified C st b (header_ends_from B p q) →
         Each (AnswersAlike a b) (header_ends_from A p q)

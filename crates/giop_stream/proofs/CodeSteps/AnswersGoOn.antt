@@ -13,21 +13,21 @@ use Rattle.giop_stream.specs.Rules.{Rules, rules_by}
 use Rattle.giop_stream.specs.EngineView.{EngineView}
 use Rattle.giop_stream.specs.EngineHolds.{HoldsBy}
 use Rattle.giop_stream.specs.Framing.{CutMessage, limit, cut, messages}
-use Rattle.giop_stream.specs.Events.{Takes, MessageKey, Event, events_from, events, octet, before_by}
+use Rattle.giop_stream.specs.Events.{Takes, MessageKey, Event, events_from, events, octets_of_event, before_by}
 use Rattle.giop_stream.specs.Lines.{Kept, kept_of}
 use Rattle.giop_stream.specs.OpenSlots.{known_of, tracked_after}
 use Rattle.giop_stream.specs.Effects.{event}
-use Rattle.giop_stream.specs.Octet.{Octet, AfterStop, Ends, Held, Of, octet_of}
+use Rattle.giop_stream.specs.Octet.{OctetKind, AfterStop, Ends, Held, Of, octet_of}
 use Rattle.giop_stream.specs.EngineState.{owner_of_next}
 use Rattle.giop_stream.specs.HeaderEndsOfStream.{header_ends_at, header_ends_from}
 use Rattle.giop_stream.specs.AnswersAgree.{AnswersAgree, AnswersAlike, AgreeAtHeaders}
 use Rattle.giop_stream.proofs.Lists.{by_growth, each_append, each_weaker, all_by}
-use Rattle.giop_stream.proofs.Cuts.Cutting.{of_parts, parts_by, stopped_at}
+use Rattle.giop_stream.proofs.Cuts.Cutting.{cut_of_parts, parts_by, cut_stopped_at}
 use Rattle.giop_stream.proofs.Cuts.Numbers.{header_of_number}
 use Rattle.giop_stream.proofs.Events.Soundness.{IsSound}
 use Rattle.giop_stream.proofs.SlotSteps.Parts.{in_turn, owner_next}
-use Rattle.giop_stream.proofs.CodeSteps.OneOctet.{Then, kept_is, then_is, paid_events}
-use Rattle.giop_stream.proofs.CodeSteps.KeptOn.{kept_on, kept_on_append, kept_of_on, noted_of, on_before, quiet_on}
+use Rattle.giop_stream.proofs.CodeSteps.OneOctet.{IsStateThen, kept_is, then_is, paid_events}
+use Rattle.giop_stream.proofs.CodeSteps.KeptOn.{kept_after_events, kept_on_append, kept_of_on, noted_in_kept, on_before, quiet_on}
 use Rattle.giop_stream.proofs.CodeSteps.EngineAlive.{sound}
 use Rattle.giop_stream.proofs.CodeSteps.OutsideMessages.{within_limit}
 use Rattle.giop_stream.proofs.CodeSteps.StreamAgreement.{each_parts, of_owner, one_header}
@@ -35,13 +35,13 @@ use Rattle.giop_stream.proofs.CodeSteps.AgreementAtHeaders.{takes_of, split, ali
 use Rattle.giop_stream.proofs.CodeSteps.HeaderEndSteps.{at_free, at_none, at_stop, at_limit, from_append, from_one}
 
 module _ (C : Table) (most : ℕ) where
-  abbrev R : Answers → Rules
+  abbrev R : (answers : Answers) → Rules
   R a = rules_by C a most
 
   -- by these events, two answers agree for this message, or its header has not ended
-  abbrev AgreeAt : List Event → Answers → Answers → MessageKey → Type 0
+  abbrev AgreeAt : (es : List Event) (f g : Answers) (key : MessageKey) → Type 0
   AgreeAt es f g w = (f w.number ≡ g w.number)
-      ⊎ (noted_of w.header (kept_of w.number es) ≡ None)
+      ⊎ (noted_in_kept w.header (kept_of w.number es) ≡ None)
 
   sound_by : (a : Answers) (p : List ℕ) → IsSound (R a) p
   sound_by a =
@@ -50,7 +50,7 @@ module _ (C : Table) (most : ℕ) where
   -- a longer stream has more events
   more_events : (a : Answers) (p : List ℕ) (x : ℕ) → (more : List Event)
       × (events (R a) (p ++ x ∷ []) ≡ events (R a) p ++ more)
-  unfolding events stopped_at of_parts messages
+  unfolding events cut_stopped_at cut_of_parts messages
   more_events a p x = go (octet_of (cut p) (length p) x)
       (then_is (R a) (is_causal (λ phase number. signatures_of C (a number) phase)) (in_turn C a)
       p x (sound_by a p))
@@ -59,7 +59,7 @@ module _ (C : Table) (most : ℕ) where
           × (events (R a) (p ++ x ∷ []) ≡ events (R a) p ++ more)
       none same = ([], ap (events_from (R a) []) same ∙ sym (append-nil (events (R a) p)))
 
-      go : (o : Octet) → Then (R a) p x o → (more : List Event)
+      go : (o : OctetKind) → IsStateThen (R a) p x o → (more : List Event)
           × (events (R a) (p ++ x ∷ []) ≡ events (R a) p ++ more)
       go AfterStop h = none (ap messages h.2.cut_is)
       go (Ends fault) h = none (ap messages h.1.cut_is)
@@ -72,7 +72,7 @@ module _ (C : Table) (most : ℕ) where
       AgreeAt es a b w
   at_before w es more a b (inl k) = inl k
   at_before w es more a b (inr k) = inr (on_before w.number w.header more (kept_of w.number es)
-      (ap (noted_of w.header) (sym (kept_of_on w.number more es)) ∙ k))
+      (ap (noted_in_kept w.header) (sym (kept_of_on w.number more es)) ∙ k))
 
   agree_back : (p : List ℕ) (x : ℕ) (a b : Answers) → AnswersAgree C most (p ++ x ∷ []) a b →
       AnswersAgree C most p a b
@@ -90,7 +90,7 @@ module _ (C : Table) (most : ℕ) where
 
   -- ---- the header that ends in the next octet
 
-  record EndsHere (a : Answers) (p : List ℕ) (x : ℕ) : Type 0 where
+  record EndsHere (answers : Answers) (p : List ℕ) (octet : ℕ) : Type 0 where
     m : CutMessage
     w : MessageKey
     kept : Kept
@@ -98,19 +98,19 @@ module _ (C : Table) (most : ℕ) where
     free : (cut p).stop ≡ None
     room : length p < limit
     current : (cut p).current ≡ Some m
-    owner : owner_of_next (before_by (R a) (events (R a) p)) m ≡ Some w
-    known : known_of (R a) p w.number ≡ Some kept
-    before : noted_of w.header kept ≡ None
-    now : header_noted kept.phase w.header (kept.octets ++ x ∷ []) ≡ Some n
-    ends : header_ends_at (R a) p x ≡ Header_end w.number w.header n ∷ []
+    owner : owner_of_next (before_by (R answers) (events (R answers) p)) m ≡ Some w
+    known : known_of (R answers) p w.number ≡ Some kept
+    before : noted_in_kept w.header kept ≡ None
+    now : header_noted kept.phase w.header (kept.octets ++ octet ∷ []) ≡ Some n
+    ends : header_ends_at (R answers) p octet ≡ Header_end w.number w.header n ∷ []
 
   -- the name of an exception that ends in the next octet
-  record NamesHere (a : Answers) (p : List ℕ) (x : ℕ) : Type 0 where
+  record NamesHere (answers : Answers) (stream : List ℕ) (octet : ℕ) : Type 0 where
     number : ℕ
     name : List ℕ
-    ends : header_ends_at (R a) p x ≡ Exception_end number name ∷ []
+    ends : header_ends_at (R answers) stream octet ≡ Exception_end number name ∷ []
 
-  abbrev Here : Answers → List ℕ → ℕ → Type 0
+  abbrev Here : (answers : Answers) (stream : List ℕ) (octet : ℕ) → Type 0
   Here a p x = (header_ends_at (R a) p x ≡ []) ⊎ (EndsHere a p x ⊎ NamesHere a p x)
 
   ends_case : (a : Answers) (p : List ℕ) (x : ℕ) → Here a p x
@@ -122,8 +122,8 @@ module _ (C : Table) (most : ℕ) where
     Now = events (R a) (p ++ x ∷ [])
 
     -- after the octet, the header of its owner has ended
-    noted_now : noted_of h.w.header (kept_of h.w.number Now) ≡ Some h.n
-    unfolding limit takes_of kept_on octet
+    noted_now : noted_in_kept h.w.header (kept_of h.w.number Now) ≡ Some h.n
+    unfolding limit takes_of kept_after_events octets_of_event
     noted_now =
         let b = before_by (R a) (events (R a) p) in
         let i = h.w.number in
@@ -138,13 +138,14 @@ module _ (C : Table) (most : ℕ) where
         let all : Now ≡ events (R a) p ++ (takes ++ parts.rest) =
         grown ∙ ap (λ (es : List Event). events (R a) p ++ es) (parts.is
         ∙ ap (λ (w : Option MessageKey). takes_of parts.at w x ++ parts.rest) owner) in
-        let kept : kept_of i Now ≡ kept_on i (kept_on i h.kept takes) parts.rest =
+        let kept : kept_of i Now ≡ kept_after_events i (kept_after_events i h.kept takes) parts.rest
+        =
         ap (kept_of i) all ∙ (kept_of_on i (takes ++ parts.rest) (events (R a) p)
-        ∙ (ap (λ (k : Kept). kept_on i k (takes ++ parts.rest))
+        ∙ (ap (λ (k : Kept). kept_after_events i k (takes ++ parts.rest))
         (sym (kept_is (R a) p i h.kept h.known))
         ∙ kept_on_append i takes parts.rest h.kept)) in
-        ap (noted_of h.w.header) kept
-        ∙ (quiet_on i h.w.header parts.rest (kept_on i h.kept takes) (parts.quiet i)
+        ap (noted_in_kept h.w.header) kept
+        ∙ (quiet_on i h.w.header parts.rest (kept_after_events i h.kept takes) (parts.quiet i)
         ∙ rw (eq-eqb i i refl) h.now)
 
     -- if answers agree after the octet, they agree for the message of the octet
@@ -165,7 +166,7 @@ module _ (C : Table) (most : ℕ) where
         go (inr k) = absurd (let no : Some h.n ≡ None = sym noted_now ∙ k in cc)
 
     -- if the answer for this message is another one, nothing is different before the octet
-    abbrev put : Answer → Answers
+    abbrev put : (answer : Answer) → Answers
     put answer i = if i == h.w.number then answer else a i
 
     agree_put : (answer : Answer) → AnswersAgree C most p a (put answer)
@@ -180,8 +181,8 @@ module _ (C : Table) (most : ℕ) where
         of_w = of_owner (λ w. header_of_number (messages (cut p)) w.number ≡ Some w.header) (R a) p
             h.w (rw h.current h.owner) (one_header (R a) p)
 
-        noted : noted_of h.w.header (kept_of h.w.number (events (R a) p)) ≡ None
-        noted = ap (noted_of h.w.header) (sym (kept_is (R a) p h.w.number h.kept h.known))
+        noted : noted_in_kept h.w.header (kept_of h.w.number (events (R a) p)) ≡ None
+        noted = ap (noted_in_kept h.w.header) (sym (kept_is (R a) p h.w.number h.kept h.known))
             ∙ h.before
 
         go : (v : MessageKey) → header_of_number (messages (cut p)) v.number ≡ Some v.header →
@@ -193,7 +194,8 @@ module _ (C : Table) (most : ℕ) where
             let both : Some h.w.header ≡ Some v.header =
             sym of_w ∙ (ap (header_of_number (messages (cut p))) number ∙ k) in
             let header : h.w.header ≡ v.header = cc in
-            inr ((λ j. noted_of (sym header j) (kept_of (sym number j) (events (R a) p))) ∙ noted)
+            inr ((λ j. noted_in_kept (sym header j) (kept_of (sym number j) (events (R a) p)))
+            ∙ noted)
 
   -- if answers agree for each message whose header has ended, they agree at each header that ends
   pub at_headers : (a b : Answers) (p : List ℕ) → AnswersAgree C most p a b →
@@ -241,7 +243,7 @@ module _ (C : Table) (most : ℕ) where
   -- ---- the answers
 
   module _ {St : Type 0} (answer : St → Answer) (notified : St → CallEvent → St) where
-    abbrev GoesOn : Answers → List ℕ → List ℕ → St → Type 0
+    abbrev GoesOn : (answers : Answers) (stream q : List ℕ) (st : St) → Type 0
     GoesOn a p q st = (b : Answers) × AnswersAgree C most p a b
         × AgreesAtEnds answer notified C st b (header_ends_from (R b) p q)
 

@@ -43,10 +43,10 @@ not_less m n e = go (cases_lt m n)
 
 module _ {St : Type 0} (due : St → Bool) (notified : St → CallEvent → St) (awaits : Bool)
     (C : Table) (st : St) (R : Rules) (p : List ℕ) where
-  abbrev Due : List ℕ → Bool
+  abbrev Due : (octets : List ℕ) → Bool
   Due = is_due_after due notified awaits C st R p
 
-  abbrev Count : List ℕ → ℕ
+  abbrev Count : (z : List ℕ) → ℕ
   Count z = length (messages (cut z))
 
   -- what is due, from the correspondent's state and from how many messages had begun before and

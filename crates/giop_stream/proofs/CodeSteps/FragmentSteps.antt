@@ -9,40 +9,40 @@ use Rattle.giop_cdr.specs.Numbers.{num}
 use Rattle.giop_print.specs.Output.{OutLog, Writes}
 use Rattle.giop_sig.specs.Table.{Table}
 use Rattle.giop_decode.specs.Noted.{Noted}
-use Rattle.giop_message.specs.Headers.{minor, kind, order, size, is_fragment}
-use Rattle.giop_message.specs.MessageReader.{IsCausal}
+use Rattle.giop_message.specs.Headers.{minor, kind, order, size, is_fragment_1_2}
+use Rattle.giop_message.specs.MessageReader.{KeepsEarlierLines}
 use Rattle.giop_message.specs.Signatures.{Answers}
 use Rattle.giop_message.specs.ReaderOfTable.{message_reader}
 use Rattle.giop_message.specs.HeaderEnds.{HeaderEnd, Header_end, header_event, call_event}
 use Rattle.giop_message.proofs.MessageLaws.{is_causal, bodiless_ends}
 use Rattle.giop_stream.specs.declared.current.Current.{Current}
 use Rattle.giop_stream.specs.declared.fragment.Continuation.{Continuation}
-use Rattle.giop_stream.specs.HeaderOctets.{wrong}
+use Rattle.giop_stream.specs.HeaderOctets.{last_octet_fault}
 use Rattle.giop_stream.specs.Rules.{Rules, rules_by}
 use Rattle.giop_stream.specs.Framing.{CutMessage, with_payload, limit, cut, messages}
-use Rattle.giop_stream.specs.Kinds.{named_at, refused}
-use Rattle.giop_stream.specs.Events.{Takes, MessageKey, Before, Open, octet, changed, message_key, id, events_of_octet, open_after}
+use Rattle.giop_stream.specs.Kinds.{lookup_offset, header_fault}
+use Rattle.giop_stream.specs.Events.{Takes, MessageKey, OpenState, Open, octets_of_event, open_after_event, message_key, id, events_of_octet, open_after}
 use Rattle.giop_stream.specs.Lines.{StreamLine, Kept, nothing_kept, lines}
 use Rattle.giop_stream.specs.Text.{lines_text}
 use Rattle.giop_stream.specs.Stream.{fault_count}
-use Rattle.giop_stream.specs.Effects.{Effect, effects, starts, tracked_at, lines_of, with_octet, event, effect_to}
+use Rattle.giop_stream.specs.Effects.{Effect, effects, start_line_of, tracked_after_event, lines_of, with_octet, event, effect_to}
 use Rattle.giop_stream.specs.OpenSlots.{Tracked, tracked_after, IsNotOpen, slots_at}
 use Rattle.giop_stream.specs.SlotsRepresent.{SlotsRepresent}
 use Rattle.giop_stream.specs.PayloadRuns.{run_effect}
-use Rattle.giop_stream.specs.PayloadOwner.{IsBeforeOctet, IsNewest, SaysId, octet_effect, owner_after, before_with}
+use Rattle.giop_stream.specs.PayloadOwner.{IsBeforeOctet, IsNewest, BeginsWithRequestId, octet_effect, owner_after, before_with}
 use Rattle.giop_stream.specs.Continuation.{IsContinuation, IsBeforeContinuation, continuation_effect}
 use Rattle.giop_stream.specs.HeaderEndsOfStream.{run_header_ends, owner_header_ends, header_ends_from}
 use Rattle.giop_stream.specs.EngineView.{FramingView}
 use Rattle.giop_stream.specs.EngineState.{State, state_of, owner_of_next, owner_of_next_in}
-use Rattle.giop_stream.specs.EngineStep.{runs}
+use Rattle.giop_stream.specs.EngineStep.{run_step}
 use Rattle.giop_stream.specs.Octet.{header_of}
-use Rattle.giop_stream.specs.FramingSteps.{end_message as settled}
+use Rattle.giop_stream.specs.FramingSteps.{cleared_if_complete as settled}
 use Rattle.giop_stream.specs.ViewOfState.{IsReached, Shows, Does}
 use Rattle.giop_stream.proofs.Lists.{each_weaker}
-use Rattle.giop_stream.proofs.Cuts.Cutting.{of_parts}
-use Rattle.giop_stream.proofs.Cuts.CutFrom.{end_message}
+use Rattle.giop_stream.proofs.Cuts.Cutting.{cut_of_parts}
+use Rattle.giop_stream.proofs.Cuts.CutFrom.{cut_with_last_message}
 use Rattle.giop_stream.proofs.Events.AfterMoreEvents.{count_append}
-use Rattle.giop_stream.proofs.Events.Soundness.{CurrentFits, IsSound}
+use Rattle.giop_stream.proofs.Events.Soundness.{CurrentFitsStream, IsSound}
 use Rattle.giop_stream.proofs.Events.StepCases.{place_more, if_some}
 use Rattle.giop_stream.proofs.SlotSteps.AtHeader.{starts_faults}
 use Rattle.giop_stream.proofs.SlotSteps.Cases.{header_begins}
@@ -55,30 +55,31 @@ use Rattle.giop_stream.proofs.SlotSteps.Performing.{no_faults}
 use Rattle.giop_stream.proofs.SlotSteps.ReadingEffects.{reader_lines, take_lines, then_by}
 use Rattle.giop_stream.proofs.SlotSteps.RequestIds.{fragment_says}
 use Rattle.giop_stream.proofs.CodeSteps.EngineAlive.{sound, alive}
-use Rattle.giop_stream.proofs.CodeSteps.HeaderEndSteps.{AreUntold, at_none, run_from}
+use Rattle.giop_stream.proofs.CodeSteps.HeaderEndSteps.{AreWithoutEvents, at_none, run_from}
 use Rattle.giop_stream.proofs.Events.MessageKinds.{named_within, fragment_not_old, fragment_four, placed_named}
 use Rattle.giop_stream.proofs.StreamLines.IdBeforeEnd.{first_octet}
 use Rattle.giop_stream.proofs.CodeSteps.WhatStands.{before_is}
 use Rattle.giop_stream.proofs.CodeSteps.Runs.{with_more}
 use Rattle.giop_stream.proofs.CodeSteps.MessageEnds.{goes_on}
 use Rattle.giop_stream.proofs.CodeSteps.MessageOctets.{does_run, runs_on, all_read, header_at, no_current, knows_at, messages_at, faults_at, settled_shows}
-use Rattle.giop_stream.proofs.CodeSteps.OneOctet.{Adds, beginner, begins_is, paid_is}
-use Rattle.giop_stream.proofs.CodeSteps.PayloadRunSteps.{Within, IsRun, before_of, takes_mixed, octets_are, run_is}
+use Rattle.giop_stream.proofs.CodeSteps.OneOctet.{AddsLinesAndState, message_that_begins, begins_is, paid_is}
+use Rattle.giop_stream.proofs.CodeSteps.PayloadRunSteps.{IsWithinPayload, IsRun, before_of, takes_mixed, octets_are, run_is}
 
 -- ---- The header of a Fragment.
 
 -- the last octet of a header is not wrong
-right_at_twelve : (header : List ℕ) → length header ≡ 12 → wrong header ≡ None
-unfolding wrong
+right_at_twelve : (header : List ℕ) → length header ≡ 12 → last_octet_fault header ≡ None
+unfolding last_octet_fault
 right_at_twelve header twelve = rw twelve refl
 
-fragment_is : (header : List ℕ) → is_fragment header ≡ true → (minor header ≡ 2) × (kind header ≡ 7)
-unfolding is_fragment
+fragment_is : (header : List ℕ) → is_fragment_1_2 header ≡ true → (minor header ≡ 2) ×
+    (kind header ≡ 7)
+unfolding is_fragment_1_2
 fragment_is header f = search (arith, and_parts, eqb-true)
 
 -- the header of a Fragment is not refused
-fragment_stands : (header : List ℕ) → is_fragment header ≡ true → refused header ≡ None
-unfolding refused
+fragment_stands : (header : List ℕ) → is_fragment_1_2 header ≡ true → header_fault header ≡ None
+unfolding header_fault
 fragment_stands header f = search (arith, fragment_is)
 
 -- the correspondent is told nothing of a Fragment
@@ -88,7 +89,7 @@ unfolding header_event
 fragment_tells C number header n seven = rw seven refl
 
 fragment_untold : (C : Table) (w : MessageKey) (o : Option Kept) (octets : List ℕ) →
-    kind w.header ≡ 7 → AreUntold C (run_header_ends w o octets)
+    kind w.header ≡ 7 → AreWithoutEvents C (run_header_ends w o octets)
 fragment_untold C w None octets seven = tt
 fragment_untold C w (Some kept) octets seven =
     bodiless_ends (λ e. call_event C e ≡ None) kept.phase w.number w.header seven
@@ -102,12 +103,12 @@ record IsQuietRun (c : Tracked) (ran : Effect) : Type 0 where
   slots : slots_at ran.tracked ≡ slots_at c
   mixed : ran.tracked.mixed ≡ c.mixed
 
-module _ (C : Table) (l : Answers) (w : MessageKey) (says : SaysId w.header) where
+module _ (C : Table) (l : Answers) (w : MessageKey) (says : BeginsWithRequestId w.header) where
   quiet_run : (q : List ℕ) (kept : Kept) (at : ℕ) (c : Tracked) →
       c.known w.number ≡ Some kept → kept.phase 12 ≡ 12 →
       length kept.octets + length q ≤ 3 → IsNotOpen w.number c.still_open
       → IsQuietRun c (run_effect C l at c (Some w) q)
-  unfolding run_effect tracked_at changed octet
+  unfolding run_effect tracked_after_event open_after_event octets_of_event
   quiet_run [] kept at c known twelve few apart = search (arith)
   quiet_run (x ∷ q) kept at c known twelve few apart =
       let e = event (suc at) w (Takes x) in
@@ -139,13 +140,13 @@ module _ (C : Table) (l : Answers) (most : ℕ) (p : List ℕ) (x : ℕ) (q : Li
     (free : (cut p).stop ≡ None)
     (none : (cut p).current ≡ None) (three : length q ≡ 3)
     (full : length ((cut p).held ++ x ∷ []) ≡ 12)
-    (fragment : is_fragment ((cut p).held ++ x ∷ []) ≡ true)
+    (fragment : is_fragment_1_2 ((cut p).held ++ x ∷ []) ≡ true)
     (sized : 4 ≤ size ((cut p).held ++ x ∷ []))
     (room : length p + 5 ≤ limit) where
   abbrev R : Rules
   R = rules_by C l most
 
-  causal : IsCausal R.reading
+  causal : KeepsEarlierLines R.reading
   causal = search (arith, is_causal)
 
   so : IsSound R p
@@ -156,7 +157,7 @@ module _ (C : Table) (l : Answers) (most : ℕ) (p : List ℕ) (x : ℕ) (q : Li
 
   -- the Fragment when it begins
   abbrev pub first : CutMessage
-  first = beginner (cut p).whole (suc (length p)) header
+  first = message_that_begins (cut p).whole (suc (length p)) header
 
   abbrev p₁ : List ℕ
   p₁ = p ++ x ∷ []
@@ -171,12 +172,13 @@ module _ (C : Table) (l : Answers) (most : ℕ) (p : List ℕ) (x : ℕ) (q : Li
   abbrev begun : Effect
   begun = effects R.reading c₀ (events_of_octet most (before_of C l most p) first)
 
-  first_adds : Adds R p p₁ (end_message (cut p).whole first) begun.lines begun.tracked
+  first_adds : AddsLinesAndState R p p₁ (cut_with_last_message
+      (cut p).whole first) begun.lines begun.tracked
   first_adds = begins_is R causal (in_turn C l) p x so free none
       (le-ltb limit (suc (length p)) (omega (arith, room))) (right_at_twelve header full) full
 
   -- its start line is the only effect
-  begun_is : begun ≡ record { tracked = c₀; lines = starts first ∷ [] }
+  begun_is : begun ≡ record { tracked = c₀; lines = start_line_of first ∷ [] }
   unfolding tracked_after
   begun_is =
       ap (effects R.reading c₀) (first_octet most (before_of C l most p) first refl
@@ -186,17 +188,17 @@ module _ (C : Table) (l : Answers) (most : ℕ) (p : List ℕ) (x : ℕ) (q : Li
       known : c₀.known first.number ≡ Some nothing_kept
       known = so.unknown first.number (omega (arith, count))
 
-  begun_cut : cut p₁ ≡ of_parts (cut p).whole (Some first) [] None
+  begun_cut : cut p₁ ≡ cut_of_parts (cut p).whole (Some first) [] None
   begun_cut = search (arith, first_adds, goes_on)
 
   begun_tracked : tracked_after R p₁ ≡ c₀
   begun_tracked = search (arith, first_adds, begun_is)
 
-  begun_lines : lines R p₁ ≡ lines R p ++ starts first ∷ []
+  begun_lines : lines R p₁ ≡ lines R p ++ start_line_of first ∷ []
   begun_lines = search (arith, first_adds, begun_is)
 
-  within : Within p₁ first (length q)
-  unfolding of_parts
+  within : IsWithinPayload p₁ first (length q)
+  unfolding cut_of_parts
   within = search (arith, begun_cut, length_push)
 
   -- ---- With the request id except its last octet.
@@ -232,14 +234,14 @@ module _ (C : Table) (l : Answers) (most : ℕ) (p : List ℕ) (x : ℕ) (q : Li
   pub same_mixed : c₄.mixed ≡ c₀.mixed
   same_mixed = search (arith, run, begun_tracked, own, quiet)
 
-  pub started : lines R p₄ ≡ lines R p ++ starts first ∷ []
+  pub started : lines R p₄ ≡ lines R p ++ start_line_of first ∷ []
   started = search (arith, run, begun_lines, begun_tracked, own, quiet, append-nil)
 
   so₄ : IsSound R p₄
   so₄ = sound R causal (in_turn C l) p₄
 
-  pub fits : CurrentFits (length p₄) (cut p₄) m₄
-  fits = if_some (CurrentFits (length p₄) (cut p₄)) (cut p₄).current m₄ run.within.current
+  pub fits : CurrentFitsStream (length p₄) (cut p₄) m₄
+  fits = if_some (CurrentFitsStream (length p₄) (cut p₄)) (cut p₄).current m₄ run.within.current
       (so₄.fits run.within.free).current
 
   pub many : length p₄ ≡ length p + 4
@@ -257,7 +259,7 @@ module _ (C : Table) (l : Answers) (most : ℕ) (p : List ℕ) (x : ℕ) (q : Li
       place = omega (arith, place_more m₄ d (length p₄) fits.place_is, many, place_is);
     };
     payload_count = omega (arith, three, payload_count);
-    newest = if_some (λ m. length m.payload < named_at m.header →
+    newest = if_some (λ m. length m.payload < lookup_offset m.header →
         IsNewest m.number (open_after R p₄))
         (cut p₄).current m₄ run.within.current (so₄.early run.within.free);
     alive = λ place less. alive R causal (in_turn C l) p₄ run.within.free m₄ run.within.current
@@ -279,10 +281,13 @@ module _ (C : Table) (l : Answers) (most : ℕ) (p : List ℕ) (x : ℕ) (q : Li
   abbrev last_does : Effect
   last_does = octet_effect C l most c₄ (with_octet m₄ d)
 
-  pub paid : Adds R p₄ (p₄ ++ d ∷ []) (end_message (cut p₄).whole (with_octet m₄ d)) last_does.lines
+  pub paid : AddsLinesAndState R p₄ (p₄ ++ d ∷ []) (cut_with_last_message (cut p₄).whole
+      (with_octet m₄ d)) last_does.lines
       last_does.tracked
   paid =
-      subst (λ (b : Before). Adds R p₄ (p₄ ++ d ∷ []) (end_message (cut p₄).whole (with_octet m₄ d))
+      subst (λ (b : OpenState). AddsLinesAndState R p₄ (p₄ ++ d ∷ []) (cut_with_last_message
+      (cut p₄).whole
+      (with_octet m₄ d))
       (effects R.reading c₄ (events_of_octet most b (with_octet m₄ d))).lines
       (effects R.reading c₄ (events_of_octet most b (with_octet m₄ d))).tracked)
       (sym (before_is R p₄ so₄))
@@ -296,7 +301,7 @@ module _ (C : Table) (l : Answers) (most : ℕ) (p : List ℕ) (x : ℕ) (q : Li
   grows = search (arith, all_octets, paid, started, append_assoc)
 
   -- the correspondent is told nothing of these octets
-  pub tells_none : AreUntold C (header_ends_from R p (x ∷ (q ++ d ∷ [])))
+  pub tells_none : AreWithoutEvents C (header_ends_from R p (x ∷ (q ++ d ∷ [])))
   unfolding header_ends_from
   tells_none =
       let ends : header_ends_from R p₁ (q ++ d ∷ [])
@@ -305,7 +310,7 @@ module _ (C : Table) (l : Answers) (most : ℕ) (p : List ℕ) (x : ℕ) (q : Li
       sym (run_from C l most q p₁ first d within (omega (arith, room, length_push p x, three)))
       ∙ ap (λ (w : Option MessageKey). owner_header_ends (tracked_after R p₁) w (q ++ d ∷ [])) own
       in
-      subst (AreUntold C) (sym (ap (λ (es : List HeaderEnd). es
+      subst (AreWithoutEvents C) (sym (ap (λ (es : List HeaderEnd). es
       ++ header_ends_from R p₁ (q ++ d ∷ [])) (at_none R p x none) ∙ ends))
       (fragment_untold C (message_key first) ((tracked_after R p₁).known first.number)
       (q ++ d ∷ []) (fragment_is header fragment).1)
@@ -358,7 +363,7 @@ module _ (C : Table) (l : Answers) (most : ℕ) (s : State) (reached : IsReached
   header_as : m.header ++ x ∷ [] ≡ (cut p).held ++ x ∷ []
   header_as = search (arith, held)
 
-  pub fragment : is_fragment ((cut p).held ++ x ∷ []) ≡ true
+  pub fragment : is_fragment_1_2 ((cut p).held ++ x ∷ []) ≡ true
   fragment = search (arith, header_as)
 
   pub sized : 4 ≤ size ((cut p).held ++ x ∷ [])
@@ -411,7 +416,7 @@ module _ (C : Table) (l : Answers) (most : ℕ) (s : State) (reached : IsReached
       (f : FramingView)
       → Writes result before after (lines_text effect.lines) →
       OnOk result (Shows C l f (state_of R' (p ++ octets)))
-      → Does C l result before after f (runs R' s octets)
+      → Does C l result before after f (run_step R' s octets)
   continuation_does result before after f text shows = search (
     arith,
     does_run,
@@ -445,7 +450,7 @@ module _ (C : Table) (l : Answers) (most : ℕ) (s : State) (reached : IsReached
       let before : fault_count (lines R' p₄) ≡ fault_count (lines R' p) =
       ap fault_count (started C l most p x q d runs_free no_message three full fragment sized
       within_limit)
-      ∙ (count_append (lines R' p) (starts (with_payload message []) ∷ [])
+      ∙ (count_append (lines R' p) (start_line_of (with_payload message []) ∷ [])
       ∙ omega (arith, starts_faults (with_payload message []) [], no_faults)) in
       let start : fault_count effect.lines ≡ fault_count last.lines =
       starts_faults (with_payload message []) last.lines in
@@ -464,6 +469,7 @@ module _ (C : Table) (l : Answers) (most : ℕ) (s : State) (reached : IsReached
       (omega (arith, octets_read, all_come, octets_before)) (stopped ∙ free) (head ∙ header_as)
       (omega (arith, payload_count, length_push q d, three)) (size_is ∙ ap size header_as) keeps)
 
-  pub continuation_untold : AreUntold C (header_ends_from R' p octets)
-  continuation_untold = subst (λ (z : List ℕ). AreUntold C (header_ends_from R' p z)) (sym come)
+  pub continuation_untold : AreWithoutEvents C (header_ends_from R' p octets)
+  continuation_untold = subst (λ (z : List ℕ). AreWithoutEvents C (header_ends_from R' p z))
+      (sym come)
       (tells_none C l most p x q d runs_free no_message three full fragment sized within_limit)

@@ -9,14 +9,14 @@ use Rattle.giop_sig.specs.Table.{Table}
 use Rattle.giop_sig.specs.RequestList.{kept_operation}
 use Rattle.giop_message.specs.declared.message.Message.{Message as CodeMessage}
 use Rattle.giop_message.specs.Signatures.{RequestTable, Answer, Answers, by_list, signatures_of}
-use Rattle.giop_message.specs.Messages.{message, stage_of}
+use Rattle.giop_message.specs.Messages.{read_message, stage_of}
 use Rattle.giop_message.specs.ReaderOfTable.{message_reader, is_over}
 use Rattle.giop_message.specs.MessageState.{Follows}
 use Rattle.giop_message.specs.HeaderEnds.{HeaderEnd, CallEvent, header_ends, after_ends, AgreesAtEnds, call_event, after_event}
 use Rattle.giop_message.proofs.MessageLaws.{is_causal, header_ends_both, over_none, octet_over, told_both, answers_first, answers_then}
 use Rattle.giop_stream.specs.declared.slots.Slot.{Slot as Contents}
 use Rattle.giop_stream.specs.declared.slots.Slots.{Slots}
-use Rattle.giop_stream.specs.HeaderOctets.{wrong}
+use Rattle.giop_stream.specs.HeaderOctets.{last_octet_fault}
 use Rattle.giop_stream.specs.Rules.{Rules, rules_by}
 use Rattle.giop_message.specs.Headers.{size}
 use Rattle.giop_stream.specs.EngineView.{FramingView}
@@ -24,23 +24,23 @@ use Rattle.giop_stream.specs.Octet.{header_of}
 use Rattle.giop_stream.specs.EngineState.{State, state_of, owner_of_next}
 use Rattle.giop_stream.specs.ViewOfState.{IsReached, Shows}
 use Rattle.giop_stream.specs.Framing.{CutMessage, Cut, limit, cut}
-use Rattle.giop_stream.specs.Events.{MessageKey, Takes, Before, octet, events, before_by}
+use Rattle.giop_stream.specs.Events.{MessageKey, Takes, OpenState, octets_of_event, events, before_by}
 use Rattle.giop_stream.specs.Lines.{Kept}
-use Rattle.giop_stream.specs.Effects.{kept_then, known_then, with_octet, event, effect_to}
+use Rattle.giop_stream.specs.Effects.{kept_after_event, message_kept_after, with_octet, event, effect_to}
 use Rattle.giop_stream.specs.OpenSlots.{Tracked, tracked_after}
 use Rattle.giop_stream.specs.SlotsRepresent.{RepresentsMessage, SlotsRepresent, index_of}
 use Rattle.giop_stream.specs.PayloadOwner.{before_with}
 use Rattle.giop_stream.specs.HeaderEndsOfStream.{run_header_ends, owner_header_ends, current_header_ends, header_ends_at, header_ends_from}
-use Rattle.giop_stream.proofs.Cuts.Cutting.{of_parts, next, parts_by, cut_grows, next_limit, next_front, next_stopped}
+use Rattle.giop_stream.proofs.Cuts.Cutting.{cut_of_parts, next_cut, parts_by, cut_grows, next_limit, next_front, next_stopped}
 use Rattle.giop_stream.proofs.Cuts.CutFrom.{header_case}
 use Rattle.giop_stream.proofs.SlotSteps.OneSlotChanges.{own_then}
 use Rattle.giop_stream.proofs.SlotSteps.Parts.{in_turn}
 use Rattle.giop_stream.proofs.CodeSteps.EngineAlive.{sound}
 use Rattle.giop_stream.proofs.CodeSteps.WhatStands.{before_is}
-use Rattle.giop_stream.proofs.SlotSteps.ReadingEffects.{Faulty, over_then, then_by}
-use Rattle.giop_stream.proofs.SlotSteps.EventsOnSlots.{IsItself, no_key, own_has, slot_has, own_kept, slot_kept}
+use Rattle.giop_stream.proofs.SlotSteps.ReadingEffects.{is_faulted_by, over_then, then_by}
+use Rattle.giop_stream.proofs.SlotSteps.EventsOnSlots.{IsCurrentMessage, no_key, own_has, slot_has, own_kept, slot_kept}
 use Rattle.giop_stream.proofs.CodeSteps.Runs.{over_stays}
-use Rattle.giop_stream.proofs.CodeSteps.PayloadRunSteps.{Within, within_on, octet_adds, octet_owner, before_of, begins, octets_are}
+use Rattle.giop_stream.proofs.CodeSteps.PayloadRunSteps.{IsWithinPayload, within_on, octet_adds, octet_owner, before_of, begins, octets_are}
 use Rattle.giop_stream.proofs.CodeSteps.MessageOctets.{runs_on, all_read, header_at, no_current, has_current}
 
 -- ---- a result
@@ -61,15 +61,16 @@ positive (suc n) f = omega arith
 
 -- ---- header ends, if the correspondent is told nothing of them
 
-abbrev pub AreUntold : Table → List HeaderEnd → Type 0
-AreUntold C = Each (λ e. call_event C e ≡ None)
+abbrev pub AreWithoutEvents : (C : Table) (ends : List HeaderEnd) → Type 0
+AreWithoutEvents C = Each (λ e. call_event C e ≡ None)
 
-pub untold_front : (C : Table) (es fs : List HeaderEnd) → AreUntold C (es ++ fs) → AreUntold C es
+pub untold_front : (C : Table) (es fs : List HeaderEnd) → AreWithoutEvents C (es ++ fs) →
+    AreWithoutEvents C es
 untold_front C [] fs h = tt
 untold_front C (e ∷ es) fs h = (h.0, untold_front C es fs h.1)
 
 pub untold_ends : {St : Type 0} (notified : St → CallEvent → St) (C : Table) (st : St)
-    (es : List HeaderEnd) → AreUntold C es → after_ends notified C st es ≡ st
+    (es : List HeaderEnd) → AreWithoutEvents C es → after_ends notified C st es ≡ st
 untold_ends notified C st [] h = refl
 untold_ends notified C st (e ∷ es) h =
     ap (λ o. after_ends notified C (after_event notified st o) es) h.0
@@ -100,7 +101,7 @@ given_ends P C a m w None k f = absurd k
 -- what holds of the header ends of the owner of the octets holds of the octets' header ends
 module _ (P : (List ℕ → List HeaderEnd) → Type 0) (C : Table) (a : Answers) (s : Slots)
     (c : Tracked) (who : Option MessageKey) (h : SlotsRepresent C a s c who) where
-  pub own_ends : (m : Option CodeMessage) → IsItself s.owner m →
+  pub own_ends : (m : Option CodeMessage) → IsCurrentMessage s.owner m →
       ((w : MessageKey) (o : Option Kept) → RepresentsMessage C a m w o →
       P (run_header_ends w o)) → P (owner_header_ends c who)
   own_ends m e f =
@@ -125,36 +126,38 @@ at_free R p x free room = search (arith, lt-ltb)
 
 module _ (C : Table) (a : Answers) where
   -- if an octet faults the message, the message is over
-  faulted_over : (w : MessageKey) (kept : Kept) (x : ℕ) → Faulty C a w kept x ≡ true
-      → is_over (stage_of (message (signatures_of C (a w.number) kept.phase) w.header
+  faulted_over : (w : MessageKey) (kept : Kept) (x : ℕ) → is_faulted_by C a w kept x ≡ true
+      → is_over (stage_of (read_message (signatures_of C (a w.number) kept.phase) w.header
       (kept.octets ++ x ∷ []))) ≡ true
   faulted_over w kept x e = search (arith, over_stays, octet_over)
 
   ends_on : (w : MessageKey) (kept : Kept) (x : ℕ) (q : List ℕ) (at : ℕ) →
       run_header_ends w (Some kept) (x ∷ q)
       ≡ run_header_ends w (Some kept) (x ∷ [])
-      ++ run_header_ends w (known_then (message_reader C a) (event at w (Takes x)) (Some kept)) q
-  unfolding octet
+      ++ run_header_ends w (message_kept_after (message_reader C a) (event at w (Takes x))
+      (Some kept)) q
+  unfolding octets_of_event
   ends_on w kept x q at =
       header_ends_both kept.phase w.number w.header kept.octets (x ∷ []) q
       ∙ ap (λ (z : List HeaderEnd). run_header_ends w (Some kept) (x ∷ []) ++ z)
-      (go (Faulty C a w kept x) refl)
+      (go (is_faulted_by C a w kept x) refl)
     where
-      go : (b : Bool) → Faulty C a w kept x ≡ b →
+      go : (b : Bool) → is_faulted_by C a w kept x ≡ b →
           header_ends kept.phase w.number w.header (kept.octets ++ x ∷ []) q
-          ≡ run_header_ends w (known_then (message_reader C a) (event at w (Takes x)) (Some kept)) q
+          ≡ run_header_ends w (message_kept_after (message_reader C a) (event at w (Takes x))
+          (Some kept)) q
       go true e =
           over_none C (a w.number) kept.phase w.number w.header (kept.octets ++ x ∷ []) q
           (faulted_over w kept x e)
           ∙ sym (ap (λ o. run_header_ends w o q)
           (then_by C a at w kept x
-          ∙ ap (λ (b : Bool). if b then None else Some (kept_then (Takes x) kept)) e))
+          ∙ ap (λ (b : Bool). if b then None else Some (kept_after_event (Takes x) kept)) e))
       go false e = search (arith, then_by)
 
   known_on : (w : MessageKey) (o : Option Kept) (x : ℕ) (q : List ℕ) (at : ℕ) →
       run_header_ends w o (x ∷ q)
       ≡ run_header_ends w o (x ∷ []) ++ run_header_ends w
-      (known_then (message_reader C a) (event at w (Takes x)) o) q
+      (message_kept_after (message_reader C a) (event at w (Takes x)) o) q
   known_on w None x q at = search (arith, over_then)
   known_on w (Some kept) x q at = ends_on w kept x q at
 
@@ -177,7 +180,8 @@ module _ (C : Table) (a : Answers) where
   ends_here R p m x free current room = search (arith, at_free)
 
   -- which headers end in octets that only add to contents, and in one more octet
-  pub run_from : (most : ℕ) (q p : List ℕ) (m : CutMessage) (x : ℕ) → Within p m (length q) →
+  pub run_from : (most : ℕ) (q p : List ℕ) (m : CutMessage) (x : ℕ) →
+      IsWithinPayload p m (length q) →
       length p + length q < limit
       → owner_header_ends (tracked_after (rules_by C a most) p)
       (owner_of_next (before_of C a most p) m) (q ++ x ∷ [])
@@ -231,11 +235,11 @@ from_one R p x = search (arith, append-nil)
 
 -- ---- octets of a header that they don't complete
 
-pub record Heads (p : List ℕ) (n : ℕ) : Type 0 where
-  pub no_current : (cut p).current ≡ None
-  pub few : length (cut p).held + n < 12
+pub record IsWithinHeader (stream : List ℕ) (n : ℕ) : Type 0 where
+  pub no_current : (cut stream).current ≡ None
+  pub few : length (cut stream).held + n < 12
 
-abbrev Right : ℕ → Cut → Type 0
+abbrev Right : (k : ℕ) (cut_stream : Cut) → Type 0
 Right k c = (c.current ≡ None) × (length c.held + k < 12)
 
 head_case : (first n : ℕ) (whole : List CutMessage) (front : List ℕ) (o : Option StreamFault) (k :
@@ -246,21 +250,21 @@ unfolding header_case
 head_case first n whole front (Some word) k h = (refl, omega (arith, h))
 head_case first n whole front None k h = search (arith, ne_eqb)
 
-pub heads_on : (p : List ℕ) (x k : ℕ) → Heads p (suc k) → Heads (p ++ x ∷ []) k
-unfolding of_parts
+pub heads_on : (p : List ℕ) (x k : ℕ) → IsWithinHeader p (suc k) → IsWithinHeader (p ++ x ∷ []) k
+unfolding cut_of_parts
 heads_on p x k h = let both = go (cut p).stop refl in record { no_current = both.0; few = both.1 }
   where
     grown : (o : Option (ℕ × StreamFault)) → (cut p).stop ≡ o
-        → cut (p ++ x ∷ []) ≡ next (length p) x (of_parts (cut p).whole None (cut p).held o)
-    grown o e = cut_grows p x ∙ ap (next (length p) x) (parts_by (cut p) None o h.no_current e)
+        → cut (p ++ x ∷ []) ≡ next_cut (length p) x (cut_of_parts (cut p).whole None (cut p).held o)
+    grown o e = cut_grows p x ∙ ap (next_cut (length p) x) (parts_by (cut p) None o h.no_current e)
 
     room : (b : Bool) → nat_lt limit (suc (length p)) ≡ b →
-        Right k (next (length p) x (of_parts (cut p).whole None (cut p).held None))
+        Right k (next_cut (length p) x (cut_of_parts (cut p).whole None (cut p).held None))
     room true e = search (arith, next_limit)
     room false e =
         subst (Right k) (sym (next_front (cut p).whole (cut p).held (length p) x e))
         (head_case 1 (suc (length p)) (cut p).whole ((cut p).held ++ x ∷ [])
-        (wrong ((cut p).held ++ x ∷ [])) k
+        (last_octet_fault ((cut p).held ++ x ∷ [])) k
         (omega (arith, h.few, length_push (cut p).held x)))
 
     go : (o : Option (ℕ × StreamFault)) → (cut p).stop ≡ o → Right k (cut (p ++ x ∷ []))
@@ -275,7 +279,7 @@ pub heads_none : (R : Rules) (xs p : List ℕ) → (cut p).current ≡ None →
 unfolding header_ends_from
 heads_none R xs p none few = all xs p (record { no_current = none; few = few })
   where
-    all : (ys q : List ℕ) → Heads q (length ys) → header_ends_from R q ys ≡ []
+    all : (ys q : List ℕ) → IsWithinHeader q (length ys) → header_ends_from R q ys ≡ []
     all [] q h = refl
     all (y ∷ ys) q h = rw (at_none R q y h.no_current)
         (all ys (q ++ y ∷ []) (heads_on q y (length ys) h))
@@ -387,7 +391,7 @@ pub run_ends : (C : Table) (a : Answers) (most : ℕ) (s : State) (r : IsReached
     owner_header_ends t (owner_of_next (before_with C a t) c) octets)
 run_ends C a most s r m h free c current octets =
     let R = rules_by C a most in
-    rw current (ap (λ (b : Before). owner_header_ends (tracked_after R r.stream)
+    rw current (ap (λ (b : OpenState). owner_header_ends (tracked_after R r.stream)
     (owner_of_next b c) octets) (sym (before_is R r.stream
     (sound R (is_causal (λ phase number. signatures_of C (a number) phase)) (in_turn C a)
     r.stream))))
@@ -405,11 +409,11 @@ module _ {St : Type 0} (answer : St → Answer) (notified : St → CallEvent →
       let all : header_ends_from R p piece ≡ header_ends_from R p past
       ++ header_ends_from R (p ++ past) rest =
       ap (header_ends_from R p) split ∙ from_append R past p rest in
-      let behind = agrees_after answer notified C a st now (header_ends_from R p piece)
+      let agreed_after = agrees_after answer notified C a st now (header_ends_from R p piece)
       (header_ends_from R p past) (header_ends_from R (p ++ past) rest) all told agrees in
       agrees_front answer notified C a now (header_ends_from R (p ++ past) rest)
       (header_ends_from R (p ++ past) q) (header_ends_from R ((p ++ past) ++ q) left)
-      (ap (header_ends_from R (p ++ past)) parts ∙ from_append R q (p ++ past) left) behind
+      (ap (header_ends_from R (p ++ past)) parts ∙ from_append R q (p ++ past) left) agreed_after
 
   pub told_on : (q : List ℕ) (later : St) →
       later ≡ after_ends notified C now (header_ends_from R (p ++ past) q)

@@ -10,7 +10,7 @@ use Rattle.giop_stream.specs.EngineView.{FramingView}
 use Rattle.giop_stream.specs.EngineState.{State, state_of}
 use Rattle.giop_stream.specs.Octet.{header_of, payload_count_of}
 use Rattle.giop_stream.specs.ViewOfState.{IsReached, Shows}
-use Rattle.giop_stream.proofs.Events.Soundness.{CurrentFits}
+use Rattle.giop_stream.proofs.Events.Soundness.{CurrentFitsStream}
 use Rattle.giop_stream.proofs.CodeSteps.MessageOctets.{at_p, runs_on, header_at, fits_at, come_at}
 
 after_stop : (stop : Option (ℕ × StreamFault)) (c : Option CutMessage) (held : List ℕ) →
@@ -40,7 +40,7 @@ no_stop : (o : Option StreamFault) → is_some o ≡ false → o ≡ None
 no_stop None e = refl
 no_stop (Some fault) e = absurd (true≢false e)
 
-twelve_of : (c : Option CutMessage) (n : ℕ) (k : Cut) → IfSome c (CurrentFits n k) →
+twelve_of : (c : Option CutMessage) (n : ℕ) (k : Cut) → IfSome c (CurrentFitsStream n k) →
     IfSome c (λ m. length m.header ≡ 12)
 twelve_of None n k h = tt
 twelve_of (Some m) n k h = h.twelve

@@ -16,10 +16,10 @@ use Rattle.giop_stream.specs.SlotsRepresent.{AreReady}
 use Rattle.giop_stream.specs.EngineView.{FramingView}
 use Rattle.giop_stream.specs.EngineState.{state_of}
 use Rattle.giop_stream.specs.EngineStep.{Step}
-use Rattle.giop_stream.specs.FramingSteps.{end_message as settled}
+use Rattle.giop_stream.specs.FramingSteps.{cleared_if_complete as settled}
 use Rattle.giop_stream.specs.ViewOfState.{Shows, Does}
-use Rattle.giop_stream.proofs.Cuts.Cutting.{of_parts}
-use Rattle.giop_stream.proofs.Cuts.CutFrom.{end_message}
+use Rattle.giop_stream.proofs.Cuts.Cutting.{cut_of_parts}
+use Rattle.giop_stream.proofs.Cuts.CutFrom.{cut_with_last_message}
 
 -- ---- A call does a step, if it writes the lines of the longer stream and leaves its state.
 
@@ -51,13 +51,13 @@ unfolding settled
 settled_off m n same = search (arith, eq-eqb)
 
 pub goes_on : (whole : List CutMessage) (m : CutMessage) → length m.payload < size m.header →
-    end_message whole m ≡ of_parts whole (Some m) [] None
-unfolding end_message of_parts
+    cut_with_last_message whole m ≡ cut_of_parts whole (Some m) [] None
+unfolding cut_with_last_message cut_of_parts
 goes_on whole m less = search (arith, lt-ltb)
 
 pub goes_off : (whole : List CutMessage) (m : CutMessage) → size m.header ≤ length m.payload →
-    end_message whole m ≡ of_parts (whole ++ m ∷ []) None [] None
-unfolding end_message of_parts
+    cut_with_last_message whole m ≡ cut_of_parts (whole ++ m ∷ []) None [] None
+unfolding cut_with_last_message cut_of_parts
 goes_off whole m more = search (arith, le-ltb)
 
 -- the slots stay ready after a message's last octet

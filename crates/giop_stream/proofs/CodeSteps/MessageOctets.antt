@@ -8,39 +8,39 @@ use Rattle.giop_cdr.specs.Numbers.{AreOctets}
 use Rattle.giop_print.specs.Output.{OutLog, Writes}
 use Rattle.giop_sig.specs.Table.{Table}
 use Rattle.giop_message.specs.Headers.{size}
-use Rattle.giop_message.specs.MessageReader.{IsCausal}
+use Rattle.giop_message.specs.MessageReader.{KeepsEarlierLines}
 use Rattle.giop_message.specs.Signatures.{Answers, signatures_of}
 use Rattle.giop_message.proofs.MessageLaws.{is_causal}
 use Rattle.giop_stream.specs.declared.current.Current.{Current}
-use Rattle.giop_stream.specs.HeaderOctets.{wrong, first_wrong_octet}
+use Rattle.giop_stream.specs.HeaderOctets.{last_octet_fault, first_wrong_octet}
 use Rattle.giop_stream.specs.Rules.{Rules, rules_by}
 use Rattle.giop_stream.specs.Framing.{CutMessage, Cut, cut, messages}
-use Rattle.giop_stream.specs.Events.{Before, events_of_octet, events, before_by}
+use Rattle.giop_stream.specs.Events.{OpenState, events_of_octet, events, before_by}
 use Rattle.giop_stream.specs.Lines.{StreamLine, lines}
 use Rattle.giop_stream.specs.Text.{lines_text}
-use Rattle.giop_stream.specs.Stream.{fault_count, tally}
+use Rattle.giop_stream.specs.Stream.{fault_count, totals_so_far}
 use Rattle.giop_stream.specs.Effects.{Effect, effects}
 use Rattle.giop_stream.specs.OpenSlots.{tracked_after}
 use Rattle.giop_stream.specs.SlotsRepresent.{SlotsRepresent}
 use Rattle.giop_stream.specs.PayloadOwner.{IsBeforeMessage, owner_after, before_with, octet_effect}
 use Rattle.giop_stream.specs.EngineView.{FramingView}
 use Rattle.giop_stream.specs.Octet.{header_of, payload_count_of}
-use Rattle.giop_stream.specs.EngineState.{State, left_of, state_of, owner_of_next, owner_of_next_in}
-use Rattle.giop_stream.specs.EngineStep.{step, run_state, runs}
-use Rattle.giop_stream.specs.FramingSteps.{held_on, end_message as settled}
+use Rattle.giop_stream.specs.EngineState.{State, payload_octets_left, state_of, owner_of_next, owner_of_next_in}
+use Rattle.giop_stream.specs.EngineStep.{step, run_state, run_step}
+use Rattle.giop_stream.specs.FramingSteps.{with_header_octet, cleared_if_complete as settled}
 use Rattle.giop_stream.specs.ViewOfState.{IsReached, Shows, payload_count_in, Does}
 use Rattle.giop_stream.proofs.Lists.{each_weaker}
-use Rattle.giop_stream.proofs.Cuts.Cutting.{of_parts}
-use Rattle.giop_stream.proofs.Cuts.CutFrom.{end_message}
-use Rattle.giop_stream.proofs.Events.Soundness.{CurrentFits, Fits, IsSound}
+use Rattle.giop_stream.proofs.Cuts.Cutting.{cut_of_parts}
+use Rattle.giop_stream.proofs.Cuts.CutFrom.{cut_with_last_message}
+use Rattle.giop_stream.proofs.Events.Soundness.{CurrentFitsStream, CutFitsStream, IsSound}
 use Rattle.giop_stream.proofs.Events.StepCases.{place_first}
 use Rattle.giop_stream.proofs.Events.StepCases.{if_some}
 use Rattle.giop_stream.proofs.SlotSteps.Parts.{in_turn}
 use Rattle.giop_stream.proofs.Cuts.OfOctets.{header_octets, size_fits}
-use Rattle.giop_stream.proofs.CodeSteps.OneOctet.{Adds, beginner, begins_is}
+use Rattle.giop_stream.proofs.CodeSteps.OneOctet.{AddsLinesAndState, message_that_begins, begins_is}
 use Rattle.giop_stream.proofs.CodeSteps.WhatStands.{before_is}
 use Rattle.giop_stream.proofs.CodeSteps.EngineStep.{tally_settled}
-use Rattle.giop_stream.proofs.CodeSteps.NextOctet.{shape, state_is, read_all}
+use Rattle.giop_stream.proofs.CodeSteps.NextOctet.{state_from_cut, state_is, read_all}
 use Rattle.giop_stream.proofs.CodeSteps.EngineAlive.{sound}
 use Rattle.giop_stream.proofs.CodeSteps.EngineLaws.{step_state, step_lines, run_holds, run_lines}
 use Rattle.giop_stream.proofs.CodeSteps.OutsideMessages.{within_limit}
@@ -74,9 +74,9 @@ reached_at C l n most s same r = record {
 -- ---- How many payload octets were read, if it is known how many are to come.
 
 come_by : (n : ℕ) (c : Cut) (current : Option CutMessage) (held : List ℕ) →
-    IfSome current (CurrentFits n c) → length held < 12
+    IfSome current (CurrentFitsStream n c) → length held < 12
     → (if nat_lt (length (header_of current held)) 12 then 0 else size (header_of current held)
-    - left_of current) ≡ payload_count_of current
+    - payload_octets_left current) ≡ payload_count_of current
 come_by n c None held h short = search (arith, lt-ltb)
 come_by n c (Some m) held h short = search (arith, le-ltb)
 
@@ -86,12 +86,13 @@ module _ (C : Table) (l : Answers) (most : ℕ) (p : List ℕ) where
   abbrev rules : Rules
   rules = rules_by C l most
 
-  abbrev pub effect_of : CutMessage → Effect
+  abbrev pub effect_of : (message : CutMessage) → Effect
   effect_of n = octet_effect C l most (tracked_after rules p) n
 
   module _ (x : ℕ) (n : CutMessage) (fits : length n.payload ≤ size n.header)
       (number : n.number ≡ suc (length (cut p).whole))
-      (adds : Adds rules p (p ++ x ∷ []) (end_message (cut p).whole n) (effect_of n).lines
+      (adds : AddsLinesAndState rules p (p ++ x ∷ []) (cut_with_last_message (cut p).whole n)
+      (effect_of n).lines
       (effect_of n).tracked) where
     pub settled_shows : (b f : FramingView) (k : ℕ) → f ≡ settled b k → b.totals.messages ≡ n.number
         → b.totals.faults ≡ fault_count (lines rules p) + fault_count (effect_of n).lines →
@@ -101,7 +102,7 @@ module _ (C : Table) (l : Answers) (most : ℕ) (p : List ℕ) where
         → SlotsRepresent C l b.slots (effect_of n).tracked
         (owner_after (before_with C l (effect_of n).tracked) n) →
         Shows C l f (state_of rules (p ++ x ∷ []))
-    unfolding shape of_parts tracked_after owner_after payload_count_in
+    unfolding state_from_cut cut_of_parts tracked_after owner_after payload_count_in
     settled_shows b f k e messages faults octets stopped header payload_count sized keeps =
         let p' = p ++ x ∷ [] in
         let whole = (cut p).whole in
@@ -110,13 +111,13 @@ module _ (C : Table) (l : Answers) (most : ℕ) (p : List ℕ) where
           faults = fault_count (lines rules p) + fault_count (effect_of n).lines;
           octets = suc (length p);
         } = λ j. record { messages = messages j; faults = faults j; octets = octets j } in
-        subst (Shows C l f) (sym (state_is rules p' adds.sound _ (end_message whole n)
+        subst (Shows C l f) (sym (state_is rules p' adds.sound _ (cut_with_last_message whole n)
         (effect_of n).tracked
         (tally_settled rules p x n (effect_of n) number adds) adds.cut_is adds.tracked_after))
         (rw e (elim (cases_lt (length n.payload) (size n.header)) [
           | inl less ↦
               let now = adds.cut_is ∙ goes_on whole n less in
-              let fit = if_some (CurrentFits (length p') (cut p')) (cut p').current n
+              let fit = if_some (CurrentFitsStream (length p') (cut p')) (cut p').current n
               (ap (λ (c : Cut). c.current) now)
               (adds.sound.fits (ap (λ (c : Cut). c.stop) now)).current in
               rw (
@@ -153,7 +154,7 @@ module _ (C : Table) (l : Answers) (most : ℕ) (s : State) (reached : IsReached
   abbrev pub p : List ℕ
   p = reached.stream
 
-  causal : IsCausal R.reading
+  causal : KeepsEarlierLines R.reading
   causal = search (arith, is_causal)
 
   so : IsSound R p
@@ -182,10 +183,10 @@ module _ (C : Table) (l : Answers) (most : ℕ) (s : State) (reached : IsReached
       (before after : OutLog) (f : FramingView)
       → lines R (p ++ q) ≡ lines R p ++ ls → Writes result before after (lines_text ls)
       → OnOk result (Shows C l f (state_of R (p ++ q))) →
-      Does C l result before after f (runs R s q)
+      Does C l result before after f (run_step R s q)
   does_run q ls result before after f grows text shows =
-      subst (λ (t : State). Does C l result before after f (runs R t q)) (sym reached.held)
-      (does_by C l most p (p ++ q) (runs R (state_of R p) q) ls result before after f
+      subst (λ (t : State). Does C l result before after f (run_step R t q)) (sym reached.held)
+      (does_by C l most p (p ++ q) (run_step R (state_of R p) q) ls result before after f
       (run_holds R causal (in_turn C l) p q)
       (run_lines R causal (in_turn C l) p q) grows text shows)
 
@@ -200,7 +201,7 @@ module _ (C : Table) (l : Answers) (most : ℕ) (s : State) (reached : IsReached
     unfolding state_of
     header_at = at_p.header ∙ rw runs_on refl
 
-    pub fits_at : Fits (length p) (cut p)
+    pub fits_at : CutFitsStream (length p) (cut p)
     fits_at = so.fits runs_on
 
     pub come_at : m.payload_count ≡ payload_count_of (cut p).current
@@ -208,7 +209,7 @@ module _ (C : Table) (l : Answers) (most : ℕ) (s : State) (reached : IsReached
     come_at = search (arith, at_p, runs_on, come_by, fits_at)
 
     pub all_read : m.totals.octets ≡ length p
-    unfolding state_of tally
+    unfolding state_of totals_so_far
     all_read = search (arith, at_p, read_all, runs_on)
 
     pub knows_at : SlotsRepresent C l m.slots (tracked_after R p)
@@ -221,7 +222,8 @@ module _ (C : Table) (l : Answers) (most : ℕ) (s : State) (reached : IsReached
         SlotsRepresent C l m.slots (tracked_after R p)
         (owner_of_next (before_with C l (tracked_after R p)) c)
     owned_at c current =
-        subst (λ (b : Before). SlotsRepresent C l m.slots (tracked_after R p) (owner_of_next b c))
+        subst (λ (b : OpenState). SlotsRepresent C l m.slots (tracked_after R p)
+        (owner_of_next b c))
         (sym (before_is R p so))
         (subst (λ (o : Option CutMessage). SlotsRepresent C l m.slots (tracked_after R p)
         (owner_of_next_in (before_by R (events R p)) o)) current knows_at)
@@ -235,44 +237,44 @@ module _ (C : Table) (l : Answers) (most : ℕ) (s : State) (reached : IsReached
     has_current full = search (arith, header_at, fits_at)
 
   pub messages_at : m.totals.messages ≡ length (messages (cut p))
-  unfolding state_of tally
+  unfolding state_of totals_so_far
   messages_at = search (arith, at_p, so)
 
   pub faults_at : m.totals.faults ≡ fault_count (lines R p)
-  unfolding state_of tally
+  unfolding state_of totals_so_far
   faults_at = search (arith, at_p)
 
   -- ---- A header's last octet.
 
-  module _ (x : ℕ) (b : FramingView) (e : b ≡ held_on m x) (full : length b.header ≡ 12)
-      (right : wrong b.header ≡ None)
+  module _ (x : ℕ) (b : FramingView) (e : b ≡ with_header_octet m x) (full : length b.header ≡ 12)
+      (right : last_octet_fault b.header ≡ None)
       (free : b.stopped ≡ None) (room : b.totals.octets ≤ 2 ^ 48) where
     ran : m.stopped ≡ None
-    unfolding held_on
+    unfolding with_header_octet
     ran = search (arith)
 
     header_was : b.header ≡ m.header ++ x ∷ []
-    unfolding held_on
+    unfolding with_header_octet
     header_was = search (arith)
 
     octets_was : b.totals.octets ≡ suc m.totals.octets
-    unfolding held_on
+    unfolding with_header_octet
     octets_was = search (arith)
 
     messages_was : b.totals.messages ≡ m.totals.messages
-    unfolding held_on
+    unfolding with_header_octet
     messages_was = search (arith)
 
     faults_was : b.totals.faults ≡ m.totals.faults
-    unfolding held_on
+    unfolding with_header_octet
     faults_was = search (arith)
 
     come_was : b.payload_count ≡ m.payload_count
-    unfolding held_on
+    unfolding with_header_octet
     come_was = search (arith)
 
     slots_was : b.slots ≡ m.slots
-    unfolding held_on
+    unfolding with_header_octet
     slots_was = search (arith)
 
     cur : (cut p).current ≡ None
@@ -283,22 +285,24 @@ module _ (C : Table) (l : Answers) (most : ℕ) (s : State) (reached : IsReached
 
     -- the message that begins
     abbrev pub first : CutMessage
-    first = beginner (cut p).whole (suc (length p)) ((cut p).held ++ x ∷ [])
+    first = message_that_begins (cut p).whole (suc (length p)) ((cut p).held ++ x ∷ [])
 
     -- the effect of the header's last octet
     abbrev pub beginning : Effect
     beginning = effect_of C l most p first
 
-    first_adds : Adds R p (p ++ x ∷ []) (end_message (cut p).whole first) beginning.lines
+    first_adds : AddsLinesAndState R p (p ++ x ∷ []) (cut_with_last_message
+        (cut p).whole first) beginning.lines
         beginning.tracked
     first_adds =
-        subst (λ (b : Before). Adds R p (p ++ x ∷ []) (end_message (cut p).whole first)
+        subst (λ (b : OpenState). AddsLinesAndState R p (p ++ x ∷ []) (cut_with_last_message
+        (cut p).whole first)
         (effects R.reading (tracked_after R p) (events_of_octet most b first)).lines
         (effects R.reading (tracked_after R p) (events_of_octet most b first)).tracked)
         (sym (before_is R p so))
         (begins_is R causal (in_turn C l) p x so (runs_on ran) cur
         (within_limit (length p) (omega (arith, all_read ran, octets_was, room)))
-        (ap wrong (sym header_now) ∙ right)
+        (ap last_octet_fault (sym header_now) ∙ right)
         (ap length (sym header_now) ∙ full))
 
     count : length (messages (cut p)) ≡ length (cut p).whole
@@ -358,7 +362,7 @@ module _ (C : Table) (l : Answers) (most : ℕ) (s : State) (reached : IsReached
   -- ---- The current message.
 
   module _ (free : m.stopped ≡ None) (c : CutMessage) (cur : (cut p).current ≡ Some c) where
-    pub current_fits : CurrentFits (length p) (cut p) c
+    pub current_fits : CurrentFitsStream (length p) (cut p) c
     current_fits = search (arith, if_some, cur, fits_at)
 
     pub header_is : m.header ≡ c.header

@@ -6,82 +6,88 @@ use Rattle.std.specs.Prelude.{nat_lt, ◌==◌, IfSome}
 use Rattle.std.specs.List.{AllByRecursion as Each}
 use Rattle.std.proofs.lemmas.Bool.{lt-ltb, le-ltb, eq-eqb, eqb-true}
 use Rattle.std.proofs.lemmas.List.{append-nil, length_push, get_or_push}
-use Rattle.giop_message.specs.Headers.{size, has_name}
-use Rattle.giop_stream.specs.Kinds.{named_at}
-use Rattle.giop_message.specs.MessageReader.{MessageReader, IsCausal, IsStreamable}
+use Rattle.giop_message.specs.Headers.{size, begins_with_request_id}
+use Rattle.giop_stream.specs.Kinds.{lookup_offset}
+use Rattle.giop_message.specs.MessageReader.{MessageReader, KeepsEarlierLines, IsStreamable}
 use Rattle.giop_checkpoint.specs.declared.fault.StreamFault.{StreamFault}
 use Rattle.giop_checkpoint.specs.declared.fault.StreamFault.TheVariants.{StreamLimit}
-use Rattle.giop_stream.specs.HeaderOctets.{wrong}
+use Rattle.giop_stream.specs.HeaderOctets.{last_octet_fault}
 use Rattle.giop_stream.specs.Rules.{Rules}
 use Rattle.giop_stream.specs.Framing.{CutMessage, Cut, limit, cut, messages, fault_of}
-use Rattle.giop_stream.specs.Events.{EventKind, Event, Open, place, events_of_octet, events_from, events, opened, open_after, joined, before_by, Now, now_of}
+use Rattle.giop_stream.specs.Events.{EventKind, Event, Open, place, events_of_octet, events_from, events, open_after_events, open_after, joined_octets, before_by, MessageOctet, last_octet_of}
 use Rattle.giop_stream.specs.Lines.{StreamLine, Kept, nothing_kept, kept_of, lines_of_messages, stop_line, lines}
 use Rattle.giop_stream.specs.Stream.{start_count}
 use Rattle.giop_stream.specs.OpenSlots.{KeptByNumber, known_of, Tracked, tracked_after}
 use Rattle.giop_stream.proofs.StreamLines.EventsTogether.{all_lines, sorted_lines}
 use Rattle.giop_stream.specs.Effects.{effects, IsBegun, with_octet}
-use Rattle.giop_stream.specs.Octet.{Octet, AfterStop, Ends, Held, Of, front_is, octet_in, octet_of, header_of, payload_count_of}
+use Rattle.giop_stream.specs.Octet.{OctetKind, AfterStop, Ends, Held, Of, kind_after_front, octet_in, octet_of, header_of, payload_count_of}
 use Rattle.giop_stream.proofs.Lists.{all_by, each_weaker}
-use Rattle.giop_stream.proofs.Cuts.Cutting.{next, stopped_at, of_parts, parts_by, cut_grows, settle_stop, settled_messages, next_limit, next_payload, next_front, next_stopped}
-use Rattle.giop_stream.proofs.Cuts.CutFrom.{end_message, header_case}
+use Rattle.giop_stream.proofs.Cuts.Cutting.{next_cut, cut_stopped_at, cut_of_parts, parts_by, cut_grows, settle_stop, settled_messages, next_limit, next_payload, next_front, next_stopped}
+use Rattle.giop_stream.proofs.Cuts.CutFrom.{cut_with_last_message, header_case}
 use Rattle.giop_stream.proofs.Events.MessageKinds.{named_by_four}
 use Rattle.giop_stream.proofs.Events.EventsOfOctet.{events_of_octet_each}
 use Rattle.giop_stream.proofs.StreamLines.LinesOfOctet.{standing_each, all_lines_places, phase_twelve}
-use Rattle.giop_stream.proofs.Events.EventsKeep.{Below}
-use Rattle.giop_stream.proofs.StreamLines.Ordering.{Ordered, Rises, Fine, ordered_stays, are_effects}
+use Rattle.giop_stream.proofs.Events.EventsKeep.{NumbersAreBelow}
+use Rattle.giop_stream.proofs.StreamLines.Ordering.{RanksDoNotFall, RanksRise, IsOrderedWithoutTwins, ordered_stays, are_effects}
 use Rattle.giop_stream.proofs.StreamLines.LineOrder.{events_of_octet_fine, not_past}
 use Rattle.giop_stream.proofs.Events.Sharing.{header_joined, own_joined}
 use Rattle.giop_stream.proofs.StreamLines.StartLines.{start_append, none_later, one_first}
 use Rattle.giop_stream.proofs.Events.AfterMoreEvents.{message_lines_grow, message_lines_same, known_grow, known_idle, open_grows, open_idle, lines_free, lines_stopped}
-use Rattle.giop_stream.proofs.Events.Soundness.{Fits, IsSound, dealt_sound, events_on, events_begin}
+use Rattle.giop_stream.proofs.Events.Soundness.{CutFitsStream, IsSound, dealt_sound, events_on, events_begin}
 use Rattle.giop_stream.proofs.CodeSteps.WhatStands.{mixed_grows}
 use Rattle.giop_stream.proofs.Events.StepCases.{quiet_sound, stop_starts, not_twelve, place_more, place_first, events_of_cut}
 
-pub record Adds (R : Rules) (p p' : List ℕ) (c : Cut) (ls : List StreamLine) (tracked : Tracked) :
+pub record AddsLinesAndState (R : Rules) (stream next_stream : List ℕ) (cut_stream : Cut)
+    (ls : List StreamLine) (tracked : Tracked) :
     Type 0
   where
-    pub cut_is : cut p' ≡ c
-    pub lines : lines R p' ≡ lines R p ++ ls
-    pub here : Each (λ l. l.place ≡ suc (length p)) ls
-    pub rises : Rises ls
-    pub tracked_after : tracked_after R p' ≡ tracked
-    pub sound : IsSound R p'
+    pub cut_is : cut next_stream ≡ cut_stream
+    pub lines : lines R next_stream ≡ lines R stream ++ ls
+    pub here : Each (λ l. l.place ≡ suc (length stream)) ls
+    pub rises : RanksRise ls
+    pub tracked_after : tracked_after R next_stream ≡ tracked
+    pub sound : IsSound R next_stream
 
 -- an octet of the message m: the last one of its header, or one of its payload
-pub record IsOf (R : Rules) (p : List ℕ) (x : ℕ) (now : Now) : Type 0 where
+pub record IsOctetOfMessage (R : Rules) (stream : List ℕ) (octet : ℕ)
+    (now : MessageOctet) : Type 0 where
   pub m : CutMessage
-  pub is_now : now_of m ≡ now
+  pub is_now : last_octet_of m ≡ now
   pub fits : length m.payload ≤ size m.header
-  pub number_is : m.number ≡ suc (length (cut p).whole)
-  pub place_is : place m ≡ suc (length p)
-  pub from : (((cut p).current ≡ None) × (m.payload ≡ []))
-      ⊎ ((was : CutMessage) × ((cut p).current ≡ Some was) × (m ≡ with_octet was x))
-  pub grows : events R (p ++ x ∷ []) ≡ events R p
-      ++ events_of_octet R.most (before_by R (events R p)) m
-  pub adds : Adds R p (p ++ x ∷ []) (end_message (cut p).whole m)
-      (effects R.reading (tracked_after R p)
-      (events_of_octet R.most (before_by R (events R p)) m)).lines
-      (effects R.reading (tracked_after R p)
-      (events_of_octet R.most (before_by R (events R p)) m)).tracked
+  pub number_is : m.number ≡ suc (length (cut stream).whole)
+  pub place_is : place m ≡ suc (length stream)
+  pub from : (((cut stream).current ≡ None) × (m.payload ≡ []))
+      ⊎ ((was : CutMessage) × ((cut stream).current ≡ Some was) × (m ≡ with_octet was octet))
+  pub grows : events R (stream ++ octet ∷ []) ≡ events R stream
+      ++ events_of_octet R.most (before_by R (events R stream)) m
+  pub adds : AddsLinesAndState R stream (stream ++ octet ∷ []) (cut_with_last_message
+      (cut stream).whole m)
+      (effects R.reading (tracked_after R stream)
+      (events_of_octet R.most (before_by R (events R stream)) m)).lines
+      (effects R.reading (tracked_after R stream)
+      (events_of_octet R.most (before_by R (events R stream)) m)).tracked
 
 -- the message that begins with this header, after these messages
-abbrev pub beginner : List CutMessage → ℕ → List ℕ → CutMessage
-beginner whole at header = record {
+abbrev pub message_that_begins : (whole : List CutMessage) (place : ℕ) (header : List ℕ) →
+    CutMessage
+message_that_begins whole at header = record {
   number = suc (length whole);
   before = at - 12;
   header = header;
   payload = [];
 }
 
-abbrev pub Then : Rules → List ℕ → ℕ → Octet → Type 0
-Then R p x AfterStop = (found : ℕ × StreamFault) × ((cut p).stop ≡ Some found)
-    × Adds R p (p ++ x ∷ []) (cut p) [] (tracked_after R p)
-Then R p x (Ends fault) =
-    ((cut p).stop ≡ None) × Adds R p (p ++ x ∷ []) (stopped_at (suc (length p)) fault (cut p))
+abbrev pub IsStateThen : (R : Rules) (stream : List ℕ) (x : ℕ) (octet : OctetKind) → Type 0
+IsStateThen R p x AfterStop = (found : ℕ × StreamFault) × ((cut p).stop ≡ Some found)
+    × AddsLinesAndState R p (p ++ x ∷ []) (cut p) [] (tracked_after R p)
+IsStateThen R p x (Ends fault) =
+    ((cut p).stop ≡ None) × AddsLinesAndState R p (p ++ x ∷ []) (cut_stopped_at (suc
+    (length p)) fault (cut p))
     (stop_line (Some (suc (length p), fault))) (tracked_after R p)
-Then R p x (Held front) = ((cut p).stop ≡ None) × ((cut p).current ≡ None)
-    × Adds R p (p ++ x ∷ []) (of_parts (cut p).whole None front None) [] (tracked_after R p)
-Then R p x (Of now) = ((cut p).stop ≡ None) × IsOf R p x now
+IsStateThen R p x (Held front) = ((cut p).stop ≡ None) × ((cut p).current ≡ None)
+    × AddsLinesAndState R p (p ++ x ∷ []) (cut_of_parts (cut p).whole None front None) []
+    (tracked_after R p)
+IsStateThen R p x (Of now) = ((cut p).stop ≡ None) × IsOctetOfMessage R p x now
 
 -- ---- What the next octet is, from the parts of the cut.
 
@@ -93,7 +99,7 @@ octet_limit held number n payload_count x e = rw e refl
 pub octet_front : (held : List ℕ) (number n payload_count x : ℕ) → nat_lt limit (suc n) ≡ false →
     length held < 12
     → octet_in None held number n payload_count x
-    ≡ front_is (held ++ x ∷ []) number (suc n) (wrong (held ++ x ∷ []))
+    ≡ kind_after_front (held ++ x ∷ []) number (suc n) (last_octet_fault (held ++ x ∷ []))
 unfolding octet_in
 octet_front held number n payload_count x e short = search (arith, lt-ltb)
 
@@ -111,7 +117,7 @@ unfolding octet_in
 octet_paid header number n payload_count x e twelve = search (arith, le-ltb)
 
 pub front_full : (front : List ℕ) (number at : ℕ) → length front ≡ 12
-    → front_is front number at None ≡ Of
+    → kind_after_front front number at None ≡ Of
     (record {
       subject = record { number = suc number; header = front };
       place = at;
@@ -122,13 +128,13 @@ pub front_full : (front : List ℕ) (number at : ℕ) → length front ≡ 12
 front_full front number at twelve = search (arith, eq-eqb)
 
 pub front_short : (front : List ℕ) (number at : ℕ) → (length front == 12) ≡ false →
-    front_is front number at None ≡ Held front
+    kind_after_front front number at None ≡ Held front
 front_short front number at e = rw e refl
 
 -- ---- The lines of an effect, in their order.
 
 now_here : (R : MessageReader) (n : ℕ) (K : KeptByNumber) (es : List Event) →
-    Ordered (all_lines R K es) → Each (λ e. e.place ≡ n) es
+    RanksDoNotFall (all_lines R K es) → Each (λ e. e.place ≡ n) es
     → Each (λ l. l.place ≡ n) (sorted_lines R K es)
 unfolding sorted_lines
 now_here R n K es h here =
@@ -136,8 +142,9 @@ now_here R n K es h here =
     (standing_each (λ l. l.place ≡ n) (λ i. false) (all_lines R K es)
     (all_lines_places R (λ k. k ≡ n) K es here))
 
-now_rises : (R : MessageReader) (K : KeptByNumber) (es : List Event) → Fine (all_lines R K es) →
-    Rises (sorted_lines R K es)
+now_rises : (R : MessageReader) (K : KeptByNumber) (es : List Event) →
+    IsOrderedWithoutTwins (all_lines R K es) →
+    RanksRise (sorted_lines R K es)
 unfolding sorted_lines
 now_rises R K es h = search (arith, ordered_stays, all_lines)
 
@@ -151,7 +158,8 @@ kept_is R p i kept e = search (arith)
 
 -- ---- The cases.
 
-module _ (R : Rules) (causal : IsCausal R.reading) (laws : IsStreamable R.reading) (p : List ℕ)
+module _ (R : Rules) (causal : KeepsEarlierLines R.reading) (laws : IsStreamable R.reading)
+    (p : List ℕ)
     (x : ℕ) (sound : IsSound R p) where
   len : length (p ++ x ∷ []) ≡ suc (length p)
   len = search (arith, length_push)
@@ -159,9 +167,9 @@ module _ (R : Rules) (causal : IsCausal R.reading) (laws : IsStreamable R.readin
   -- the octet is one of no message
   idle : (c : Cut) (ls : List StreamLine) → cut (p ++ x ∷ []) ≡ c → messages c ≡ messages (cut p)
       → lines_of_messages R p ++ stop_line c.stop ≡ lines R p ++ ls → start_count ls ≡ 0 →
-      Each (λ l. l.place ≡ suc (length p)) ls → Rises ls
-      → (c.stop ≡ None → (c.current ≡ None) × Fits (suc (length p)) c) →
-      Adds R p (p ++ x ∷ []) c ls (tracked_after R p)
+      Each (λ l. l.place ≡ suc (length p)) ls → RanksRise ls
+      → (c.stop ≡ None → (c.current ≡ None) × CutFitsStream (suc (length p)) c) →
+      AddsLinesAndState R p (p ++ x ∷ []) c ls (tracked_after R p)
   unfolding tracked_after events
   idle c ls ec ms same none here rises fits =
       let p' = p ++ x ∷ [] in
@@ -184,10 +192,10 @@ module _ (R : Rules) (causal : IsCausal R.reading) (laws : IsStreamable R.readin
             (ap start_count more ∙ (start_append (lines R p) ls
             ∙ omega (arith, none)))
             (λ st. rw ec (fits (ap (λ (k : Cut). k.stop) (sym ec) ∙ st)).1)
-            (λ st. no_current st (λ m. length m.payload < named_at m.header →
-            Below m.number (open_after R p')))
-            (λ st. no_current st (λ m. length m.payload ≤ named_at m.header →
-            joined m.number (events R p') ≡ m.payload)) sound;
+            (λ st. no_current st (λ m. length m.payload < lookup_offset m.header →
+            NumbersAreBelow m.number (open_after R p')))
+            (λ st. no_current st (λ m. length m.payload ≤ lookup_offset m.header →
+            joined_octets m.number (events R p') ≡ m.payload)) sound;
       }
     where
       no_current : (cut (p ++ x ∷ [])).stop ≡ None → (P : CutMessage → Type 0) →
@@ -195,20 +203,21 @@ module _ (R : Rules) (causal : IsCausal R.reading) (laws : IsStreamable R.readin
       no_current st P = rw (ec, (fits (ap (λ (k : Cut). k.stop) (sym ec) ∙ st)).0) tt
 
   -- the octet is one of the message m
-  deals : (m : CutMessage) (whole : List CutMessage) → cut (p ++ x ∷ []) ≡ end_message whole m
+  deals : (m : CutMessage) (whole : List CutMessage) → cut (p ++ x ∷ [])
+      ≡ cut_with_last_message whole m
       → events R (p ++ x ∷ []) ≡ events R p
       ++ events_of_octet R.most (before_by R (events R p)) m → place m ≡ suc (length p) →
       m.number ≡ suc (length whole)
       → length m.header ≡ 12 → (cut p).stop ≡ None → length (messages (cut p)) ≤ suc (length whole)
-      → (length m.payload ≤ named_at m.header → Below m.number (open_after R p))
+      → (length m.payload ≤ lookup_offset m.header → NumbersAreBelow m.number (open_after R p))
       → length (messages (cut p)) + start_count
       (sorted_lines R.reading (known_of R p) (events_of_octet R.most (before_by R (events R p)) m))
       ≡ suc
       (length whole) → length m.payload ≤ size m.header →
-      (has_name m.header ≡ true → IsBegun (known_of R p) m)
-      → (length m.payload ≤ named_at m.header → joined m.number (events R p)
-      ++ joined m.number (events_of_octet R.most (before_by R (events R p)) m) ≡ m.payload)
-      → Adds R p (p ++ x ∷ []) (end_message whole m)
+      (begins_with_request_id m.header ≡ true → IsBegun (known_of R p) m)
+      → (length m.payload ≤ lookup_offset m.header → joined_octets m.number (events R p)
+      ++ joined_octets m.number (events_of_octet R.most (before_by R (events R p)) m) ≡ m.payload)
+      → AddsLinesAndState R p (p ++ x ∷ []) (cut_with_last_message whole m)
       (effects R.reading (tracked_after R p)
       (events_of_octet R.most (before_by R (events R p)) m)).lines
       (effects R.reading (tracked_after R p)
@@ -232,7 +241,7 @@ module _ (R : Rules) (causal : IsCausal R.reading) (laws : IsStreamable R.readin
         lines = lines_free R p' st' ∙ (sd ∙ rw (lines_free R p st, p1.lines) refl);
         here = subst (Each (λ l. l.place ≡ suc (length p))) p1.lines
             (now_here R.reading (suc (length p)) K es fine.ordered here);
-        rises = subst Rises p1.lines (now_rises R.reading K es fine);
+        rises = subst RanksRise p1.lines (now_rises R.reading K es fine);
         tracked_after = λ j. record {
           still_open = (open_grows R p p' es ev ∙ p1.still_open) j;
           mixed = (ap (λ (all : List Event). (before_by R all).mixed) ev
@@ -245,7 +254,7 @@ module _ (R : Rules) (causal : IsCausal R.reading) (laws : IsStreamable R.readin
       }
 
   begun_by : (was : CutMessage) → (length was.payload ≤ 4 →
-      joined was.number (events R p) ≡ was.payload) →
+      joined_octets was.number (events R p) ≡ was.payload) →
       IsBegun (known_of R p) (with_octet was x)
   begun_by was begun some short kept known =
       let is = kept_is R p was.number kept known in
@@ -260,55 +269,57 @@ module _ (R : Rules) (causal : IsCausal R.reading) (laws : IsStreamable R.readin
       )
 
   pub paid_events : (whole : List CutMessage) (was : CutMessage) (held : List ℕ) →
-      cut p ≡ of_parts whole (Some was) held None
+      cut p ≡ cut_of_parts whole (Some was) held None
       → nat_lt limit (suc (length p)) ≡ false → events R (p ++ x ∷ []) ≡ events R p
       ++ events_of_octet R.most (before_by R (events R p)) (with_octet was x)
-  unfolding of_parts messages open_after
+  unfolding cut_of_parts messages open_after
   paid_events whole was held ec room =
       let p' = p ++ x ∷ [] in
       let st : (cut p).stop ≡ None = rw ec refl in
-      let fit : Fits (length p) (of_parts whole (Some was) held None) = rw ec at (sound.fits st) in
-      let ec' : cut p' ≡ end_message whole (with_octet was x) =
+      let fit : CutFitsStream (length p) (cut_of_parts whole (Some was) held None) =
+      rw ec at (sound.fits st) in
+      let ec' : cut p' ≡ cut_with_last_message whole (with_octet was x) =
       cut_grows p x ∙ rw ec (next_payload whole was held (length p) x room) in
       let ev : events R p ≡ events_from R [] (whole ++ was ∷ []) =
-      events_of_cut R p (of_parts whole (Some was) held None) ec in
-      let early : length was.payload < named_at was.header →
-      Below was.number (opened [] (events R p)) =
+      events_of_cut R p (cut_of_parts whole (Some was) held None) ec in
+      let early : length was.payload < lookup_offset was.header →
+      NumbersAreBelow was.number (open_after_events [] (events R p)) =
       rw ec at (sound.early st) in
-      events_of_cut R p' (end_message whole (with_octet was x)) ec'
+      events_of_cut R p' (cut_with_last_message whole (with_octet was x)) ec'
       ∙ (ap (events_from R []) (settled_messages whole (with_octet was x))
       ∙ (events_on R whole was x fit.current.lacks
-      (λ few. subst (λ (es : List Event). Below was.number (opened [] es)) ev (early few))
+      (λ few. subst (λ (es : List Event). NumbersAreBelow was.number (open_after_events [] es)) ev
+      (early few))
       ∙ ap (λ (es : List Event). es ++ events_of_octet R.most (before_by R es) (with_octet was x))
       (sym ev)))
 
   paid_adds : (whole : List CutMessage) (was : CutMessage) (held : List ℕ) →
-      cut p ≡ of_parts whole (Some was) held None → nat_lt limit (suc (length p)) ≡ false
-      → Adds R p (p ++ x ∷ []) (end_message whole (with_octet was x))
+      cut p ≡ cut_of_parts whole (Some was) held None → nat_lt limit (suc (length p)) ≡ false
+      → AddsLinesAndState R p (p ++ x ∷ []) (cut_with_last_message whole (with_octet was x))
       (effects R.reading (tracked_after R p)
       (events_of_octet R.most (before_by R (events R p)) (with_octet was x))).lines
       (effects R.reading (tracked_after R p)
       (events_of_octet R.most (before_by R (events R p)) (with_octet was x))).tracked
-  unfolding of_parts messages open_after
+  unfolding cut_of_parts messages open_after
   paid_adds whole was held ec room =
-      let c = of_parts whole (Some was) held None in
+      let c = cut_of_parts whole (Some was) held None in
       let m = with_octet was x in
       let st : (cut p).stop ≡ None = rw ec refl in
-      let fit : Fits (length p) c = rw ec at (sound.fits st) in
+      let fit : CutFitsStream (length p) c = rw ec at (sound.fits st) in
       let fits = fit.current in
       let lacks = fits.lacks in
       let long = length_push was.payload x in
-      let early : length was.payload < named_at was.header →
-      Below was.number (open_after R p) =
+      let early : length was.payload < lookup_offset was.header →
+      NumbersAreBelow was.number (open_after R p) =
       rw ec at (sound.early st) in
       let one : length (whole ++ was ∷ []) ≡ suc (length whole) =
       omega (arith, length_push whole was) in
       let count : length (messages (cut p)) ≡ suc (length whole) = rw ec one in
-      let ec' : cut (p ++ x ∷ []) ≡ end_message whole m =
+      let ec' : cut (p ++ x ∷ []) ≡ cut_with_last_message whole m =
       cut_grows p x ∙ rw ec (next_payload whole was held (length p) x room) in
       let ev = paid_events whole was held ec room in
-      let begun : length was.payload ≤ named_at was.header →
-      joined was.number (events R p) ≡ was.payload =
+      let begun : length was.payload ≤ lookup_offset was.header →
+      joined_octets was.number (events R p) ≡ was.payload =
       rw ec at (sound.begun st) in
       let starts = none_later R (known_of R p) (before_by R (events R p)) m (omega (arith, long)) in
       deals m whole ec' ev (place_more was x (length p) fits.place_is) fits.number_is fits.twelve st
@@ -322,13 +333,14 @@ module _ (R : Rules) (causal : IsCausal R.reading) (laws : IsStreamable R.readin
       ) refl)
 
   paid : (whole : List CutMessage) (was : CutMessage) (held : List ℕ) →
-      cut p ≡ of_parts whole (Some was) held None
-      → nat_lt limit (suc (length p)) ≡ false → Then R p x
+      cut p ≡ cut_of_parts whole (Some was) held None
+      → nat_lt limit (suc (length p)) ≡ false → IsStateThen R p x
       (octet_in None was.header (length (messages (cut p))) (length p) (length was.payload) x)
-  unfolding of_parts messages
+  unfolding cut_of_parts messages
   paid whole was held ec room =
       let st : (cut p).stop ≡ None = rw ec refl in
-      let fit : Fits (length p) (of_parts whole (Some was) held None) = rw ec at (sound.fits st) in
+      let fit : CutFitsStream (length p) (cut_of_parts whole (Some was) held None) =
+      rw ec at (sound.fits st) in
       let fits = fit.current in
       let lacks = fits.lacks in
       let long = length_push was.payload x in
@@ -362,47 +374,49 @@ module _ (R : Rules) (causal : IsCausal R.reading) (laws : IsStreamable R.readin
         },
       )
 
-  begins_events : (whole : List CutMessage) (held : List ℕ) → cut p ≡ of_parts whole None held None
-      → nat_lt limit (suc (length p)) ≡ false → wrong (held ++ x ∷ []) ≡ None →
+  begins_events : (whole : List CutMessage) (held : List ℕ) →
+      cut p ≡ cut_of_parts whole None held None
+      → nat_lt limit (suc (length p)) ≡ false → last_octet_fault (held ++ x ∷ []) ≡ None →
       length (held ++ x ∷ []) ≡ 12
       → events R (p ++ x ∷ []) ≡ events R p
       ++ events_of_octet R.most (before_by R (events R p))
-      (beginner whole (suc (length p)) (held ++ x ∷ []))
-  unfolding of_parts messages header_case
+      (message_that_begins whole (suc (length p)) (held ++ x ∷ []))
+  unfolding cut_of_parts messages header_case
   begins_events whole held ec room right twelve =
       let p' = p ++ x ∷ [] in
       let front = held ++ x ∷ [] in
-      let m = beginner whole (suc (length p)) front in
-      let none : messages (of_parts whole None held None) ≡ whole = append-nil whole in
+      let m = message_that_begins whole (suc (length p)) front in
+      let none : messages (cut_of_parts whole None held None) ≡ whole = append-nil whole in
       let ev : events R p ≡ events_from R [] whole =
-      events_of_cut R p (of_parts whole None held None) ec ∙ ap (events_from R []) none in
+      events_of_cut R p (cut_of_parts whole None held None) ec ∙ ap (events_from R []) none in
       let number : 1 + length whole ≡ suc (length whole) = omega arith in
       let grown : cut p' ≡ header_case 1 (suc (length p)) whole (held ++ x ∷ [])
-      (wrong (held ++ x ∷ [])) (length (held ++ x ∷ []) == 12) =
+      (last_octet_fault (held ++ x ∷ [])) (length (held ++ x ∷ []) == 12) =
       cut_grows p x ∙ rw ec (next_front whole held (length p) x room) in
-      let ec' : cut p' ≡ end_message whole m =
+      let ec' : cut p' ≡ cut_with_last_message whole m =
       grown ∙ rw (right, eq-eqb (length front) 12 twelve, number) refl in
-      events_of_cut R p' (end_message whole m) ec'
+      events_of_cut R p' (cut_with_last_message whole m) ec'
       ∙ (ap (events_from R []) (settled_messages whole m)
       ∙ (events_begin R whole m refl
       ∙ ap (λ (es : List Event). es ++ events_of_octet R.most (before_by R es) m) (sym ev)))
 
-  begins_adds : (whole : List CutMessage) (held : List ℕ) → cut p ≡ of_parts whole None held None
-      → nat_lt limit (suc (length p)) ≡ false → wrong (held ++ x ∷ []) ≡ None →
+  begins_adds : (whole : List CutMessage) (held : List ℕ) →
+      cut p ≡ cut_of_parts whole None held None
+      → nat_lt limit (suc (length p)) ≡ false → last_octet_fault (held ++ x ∷ []) ≡ None →
       length (held ++ x ∷ []) ≡ 12
-      → (let m = beginner whole (suc (length p)) (held ++ x ∷ []) in
-      Adds R p (p ++ x ∷ []) (end_message whole m)
+      → (let m = message_that_begins whole (suc (length p)) (held ++ x ∷ []) in
+      AddsLinesAndState R p (p ++ x ∷ []) (cut_with_last_message whole m)
       (effects R.reading (tracked_after R p)
       (events_of_octet R.most (before_by R (events R p)) m)).lines
       (effects R.reading (tracked_after R p)
       (events_of_octet R.most (before_by R (events R p)) m)).tracked)
-  unfolding of_parts messages open_after header_case
+  unfolding cut_of_parts messages open_after header_case
   begins_adds whole held ec room right twelve =
-      let c = of_parts whole None held None in
+      let c = cut_of_parts whole None held None in
       let front = held ++ x ∷ [] in
-      let m = beginner whole (suc (length p)) front in
+      let m = message_that_begins whole (suc (length p)) front in
       let st : (cut p).stop ≡ None = rw ec refl in
-      let fit : Fits (length p) c = rw ec at (sound.fits st) in
+      let fit : CutFitsStream (length p) c = rw ec at (sound.fits st) in
       let within = fit.held in
       let long = length_push held x in
       let none : messages c ≡ whole = append-nil whole in
@@ -410,15 +424,16 @@ module _ (R : Rules) (causal : IsCausal R.reading) (laws : IsStreamable R.readin
       let known : known_of R p m.number ≡ Some nothing_kept =
       sound.unknown m.number (omega (arith, count)) in
       let number : 1 + length whole ≡ suc (length whole) = omega arith in
-      let grown : cut (p ++ x ∷ []) ≡ header_case 1 (suc (length p)) whole front (wrong front)
+      let grown : cut (p ++ x ∷ []) ≡ header_case 1 (suc (length p)) whole front
+      (last_octet_fault front)
       (length front == 12) =
       cut_grows p x ∙ rw ec (next_front whole held (length p) x room) in
-      let ec' : cut (p ++ x ∷ []) ≡ end_message whole m =
+      let ec' : cut (p ++ x ∷ []) ≡ cut_with_last_message whole m =
       grown ∙ rw (right, eq-eqb (length front) 12 twelve, number) refl in
       let ev = begins_events whole held ec room right twelve in
       let starts = one_first R (known_of R p) (before_by R (events R p)) m nothing_kept refl known
       in
-      let low : Below m.number (open_after R p) =
+      let low : NumbersAreBelow m.number (open_after R p) =
       each_weaker (λ o. o.opener.number ≤ length (messages (cut p)))
       (λ o. o.opener.number < m.number)
       (λ o k. omega (arith, k, count)) (open_after R p) sound.numbers in
@@ -431,25 +446,27 @@ module _ (R : Rules) (causal : IsCausal R.reading) (laws : IsStreamable R.readin
         header_joined R.most m.number (before_by R (events R p)) m refl,
       ) refl)
 
-  begins : (whole : List CutMessage) (held : List ℕ) → cut p ≡ of_parts whole None held None
-      → nat_lt limit (suc (length p)) ≡ false → wrong (held ++ x ∷ []) ≡ None →
+  begins : (whole : List CutMessage) (held : List ℕ) → cut p ≡ cut_of_parts whole None held None
+      → nat_lt limit (suc (length p)) ≡ false → last_octet_fault (held ++ x ∷ []) ≡ None →
       length (held ++ x ∷ []) ≡ 12
-      → Then R p x (front_is (held ++ x ∷ []) (length (messages (cut p))) (suc (length p)) None)
-  unfolding of_parts messages
+      → IsStateThen R p x (kind_after_front (held ++ x ∷ []) (length (messages (cut p))) (suc
+      (length p)) None)
+  unfolding cut_of_parts messages
   begins whole held ec room right twelve =
       let front = held ++ x ∷ [] in
       let st : (cut p).stop ≡ None = rw ec refl in
-      let fit : Fits (length p) (of_parts whole None held None) = rw ec at (sound.fits st) in
+      let fit : CutFitsStream (length p) (cut_of_parts whole None held None) =
+      rw ec at (sound.fits st) in
       let within = fit.held in
-      let none : messages (of_parts whole None held None) ≡ whole = append-nil whole in
+      let none : messages (cut_of_parts whole None held None) ≡ whole = append-nil whole in
       let count : length (messages (cut p)) ≡ length whole = rw (ec, none) refl in
-      let pl = place_first (length p) (beginner whole (suc (length p)) front) refl refl
+      let pl = place_first (length p) (message_that_begins whole (suc (length p)) front) refl refl
       (omega (arith, within, length_push held x, twelve)) in
       let same : (cut p).whole ≡ whole = rw ec refl in
       rw (front_full front (length (messages (cut p))) (suc (length p)) twelve) (
         st,
         record {
-          m = beginner whole (suc (length p)) front;
+          m = message_that_begins whole (suc (length p)) front;
           is_now = λ j. record {
             subject = record { number = suc (sym count j); header = front };
             place = pl j;
@@ -467,31 +484,35 @@ module _ (R : Rules) (causal : IsCausal R.reading) (laws : IsStreamable R.readin
 
   stops : (whole : List CutMessage) (current : Option CutMessage) (held : List ℕ) (fault :
       StreamFault)
-      → cut p ≡ of_parts whole current held None →
-      next (length p) x (cut p) ≡ stopped_at (suc (length p)) fault (cut p)
-      → Then R p x (Ends fault)
-  unfolding of_parts stopped_at messages stop_line
+      → cut p ≡ cut_of_parts whole current held None →
+      next_cut (length p) x (cut p) ≡ cut_stopped_at (suc (length p)) fault (cut p)
+      → IsStateThen R p x (Ends fault)
+  unfolding cut_of_parts cut_stopped_at messages stop_line
   stops whole current held fault ec grown =
       let st : (cut p).stop ≡ None = rw ec refl in (
         st,
-        idle (stopped_at (suc (length p)) fault (cut p)) (stop_line (Some (suc (length p), fault)))
+        idle (cut_stopped_at (suc (length p)) fault (cut p)) (stop_line (Some (
+          suc (length p),
+          fault,
+        )))
             (cut_grows p x ∙ grown) refl (rw (lines_free R p st) refl)
             (stop_starts (suc (length p), fault)) (refl, tt) (tt, tt)
             (λ free. absurd cc),
       )
 
-  fronts : (whole : List CutMessage) (held : List ℕ) → cut p ≡ of_parts whole None held None
+  fronts : (whole : List CutMessage) (held : List ℕ) → cut p ≡ cut_of_parts whole None held None
       → nat_lt limit (suc (length p)) ≡ false → (w : Option StreamFault) →
-      wrong (held ++ x ∷ []) ≡ w → (b : Bool)
+      last_octet_fault (held ++ x ∷ []) ≡ w → (b : Bool)
       → (length (held ++ x ∷ []) == 12) ≡ b
-      → Then R p x (front_is (held ++ x ∷ []) (length (messages (cut p))) (suc (length p)) w)
-  unfolding of_parts header_case stopped_at messages start_count stop_line
+      → IsStateThen R p x (kind_after_front (held ++ x ∷ []) (length (messages (cut p))) (suc
+      (length p)) w)
+  unfolding cut_of_parts header_case cut_stopped_at messages start_count stop_line
   fronts whole held ec room (Some fault) e b k =
       stops whole None held fault ec (rw ec (next_front whole held (length p) x room ∙ rw e refl))
   fronts whole held ec room None e true k = search (arith, begins, eqb-true)
   fronts whole held ec room None e false k = search (
     arith,
-    of_parts,
+    cut_of_parts,
     length_push,
     not_twelve,
     cut_grows,
@@ -503,10 +524,12 @@ module _ (R : Rules) (causal : IsCausal R.reading) (laws : IsStreamable R.readin
 
   then_by : (whole : List CutMessage) (current : Option CutMessage) (held : List ℕ)
       (stop : Option (ℕ × StreamFault))
-      → cut p ≡ of_parts whole current held stop → (b : Bool) → nat_lt limit (suc (length p)) ≡ b
-      → Then R p x (octet_in (fault_of stop) (header_of current held) (length (messages (cut p)))
+      → cut p ≡ cut_of_parts whole current held stop → (b : Bool) →
+      nat_lt limit (suc (length p)) ≡ b
+      → IsStateThen R p x (octet_in (fault_of stop) (header_of current held) (length (messages
+      (cut p)))
       (length p) (payload_count_of current) x)
-  unfolding of_parts octet_in stopped_at start_count
+  unfolding cut_of_parts octet_in cut_stopped_at start_count
   then_by whole current held (Some found) ec b e =
       let st : (cut p).stop ≡ Some found = rw ec refl in (
         found,
@@ -523,20 +546,21 @@ module _ (R : Rules) (causal : IsCausal R.reading) (laws : IsStreamable R.readin
       (rw ec (next_limit whole current held (length p) x e)))
   then_by whole (Some was) held None ec false e = paid whole was held ec e
   then_by whole None held None ec false e =
-      let fit : Fits (length p) (of_parts whole None held None) =
+      let fit : CutFitsStream (length p) (cut_of_parts whole None held None) =
       rw ec at (sound.fits (rw ec refl)) in
       rw (octet_front held (length (messages (cut p))) (length p) 0 x e fit.short)
-      (fronts whole held ec e (wrong (held ++ x ∷ [])) refl (length (held ++ x ∷ []) == 12) refl)
+      (fronts whole held ec e (last_octet_fault (held ++ x ∷ [])) refl (length (held ++ x
+      ∷ []) == 12) refl)
 
-  pub then_is : Then R p x (octet_of (cut p) (length p) x)
-  unfolding of_parts octet_of
+  pub then_is : IsStateThen R p x (octet_of (cut p) (length p) x)
+  unfolding cut_of_parts octet_of
   then_is = then_by (cut p).whole (cut p).current (cut p).held (cut p).stop refl
       (nat_lt limit (suc (length p))) refl
 
   -- an octet of the current message's payload, and the last octet of a header
   pub paid_is : (was : CutMessage) → (cut p).stop ≡ None → (cut p).current ≡ Some was →
       nat_lt limit (suc (length p)) ≡ false
-      → Adds R p (p ++ x ∷ []) (end_message (cut p).whole (with_octet was x))
+      → AddsLinesAndState R p (p ++ x ∷ []) (cut_with_last_message (cut p).whole (with_octet was x))
       (effects R.reading (tracked_after R p)
       (events_of_octet R.most (before_by R (events R p)) (with_octet was x))).lines
       (effects R.reading (tracked_after R p)
@@ -546,10 +570,10 @@ module _ (R : Rules) (causal : IsCausal R.reading) (laws : IsStreamable R.readin
 
   pub begins_is : (cut p).stop ≡ None → (cut p).current ≡ None →
       nat_lt limit (suc (length p)) ≡ false
-      → wrong ((cut p).held ++ x ∷ []) ≡ None → length ((cut p).held ++ x ∷ []) ≡ 12
-      → (let m = beginner (cut p).whole (suc (length p)) ((cut p).held ++ x ∷ []) in
-      Adds R p (p ++ x ∷ [])
-      (end_message (cut p).whole m) (effects R.reading (tracked_after R p)
+      → last_octet_fault ((cut p).held ++ x ∷ []) ≡ None → length ((cut p).held ++ x ∷ []) ≡ 12
+      → (let m = message_that_begins (cut p).whole (suc (length p)) ((cut p).held ++ x ∷ []) in
+      AddsLinesAndState R p (p ++ x ∷ [])
+      (cut_with_last_message (cut p).whole m) (effects R.reading (tracked_after R p)
       (events_of_octet R.most (before_by R (events R p)) m)).lines
       (effects R.reading (tracked_after R p)
       (events_of_octet R.most (before_by R (events R p)) m)).tracked)

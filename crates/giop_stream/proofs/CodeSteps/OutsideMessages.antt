@@ -8,7 +8,7 @@ use Rattle.giop_sig.specs.Table.{Table}
 use Rattle.giop_message.specs.Signatures.{Answers}
 use Rattle.giop_checkpoint.specs.declared.fault.StreamFault.{StreamFault}
 use Rattle.giop_checkpoint.specs.declared.fault.StreamFault.TheVariants.{StreamLimit}
-use Rattle.giop_stream.specs.HeaderOctets.{wrong}
+use Rattle.giop_stream.specs.HeaderOctets.{last_octet_fault}
 use Rattle.giop_stream.specs.Rules.{Rules, joins_by, rules_by}
 use Rattle.giop_stream.specs.Framing.{limit}
 use Rattle.giop_stream.specs.Lines.{stop_line}
@@ -16,9 +16,9 @@ use Rattle.giop_stream.specs.Text.{stop_text, lines_text}
 use Rattle.giop_stream.specs.SlotsRepresent.{IsBare, AreReady}
 use Rattle.giop_stream.specs.OpenSlots.{slots_of}
 use Rattle.giop_stream.specs.EngineView.{FramingView}
-use Rattle.giop_stream.specs.Octet.{front_is, octet_in}
+use Rattle.giop_stream.specs.Octet.{kind_after_front, octet_in}
 use Rattle.giop_stream.specs.EngineState.{State}
-use Rattle.giop_stream.specs.EngineStep.{fresh, octet_at, ended, held_on, step}
+use Rattle.giop_stream.specs.EngineStep.{fresh_state, kind_of_octet, stream_fault_step, header_octet_step, step}
 use Rattle.giop_stream.specs.FramingSteps as steps
 use Rattle.giop_stream.specs.ViewOfState.{Shows, payload_count_in}
 use Rattle.giop_stream.proofs.CodeSteps.OneOctet.{octet_limit, octet_front, front_short}
@@ -39,16 +39,16 @@ none_by (Some fault) e = absurd cc
 
 -- if the reading ends, the slots stay ready
 pub ready_stopped : (C : Table) (m m' : FramingView) (fault : StreamFault) (place : ℕ) →
-    m' ≡ steps.stop m fault place
+    m' ≡ steps.stopped_with m fault place
     → AreReady C (place + 1) m.slots → AreReady C (m'.totals.octets + 1) m'.slots
-unfolding steps.stop
+unfolding steps.stopped_with
 ready_stopped C m m' fault place e h = rw e h
 
 -- the fields with one more header octet held
 pub pushed_is : (m : FramingView) (x : ℕ) (header : List ℕ) → header ≡ m.header ++ x ∷ []
     → record m { totals = record m.totals { octets = m.totals.octets + 1 }; header = header }
-    ≡ steps.held_on m x
-unfolding steps.held_on
+    ≡ steps.with_header_octet m x
+unfolding steps.with_header_octet
 pushed_is m x header e = search (arith)
 
 -- ---- Before the first octet.
@@ -56,8 +56,8 @@ pushed_is m x header e = search (arith)
 pub nothing_shown : (C : Table) (l : Answers) (n : ℕ) (m : FramingView) →
     m.totals ≡ record { messages = 0; faults = 0; octets = 0 }
     → m.stopped ≡ None → m.header ≡ [] → m.payload_count ≡ 0 → IsBare m.slots →
-    m.slots.is_mixed ≡ not (joins_by C) → Shows C l m (fresh (rules_by C l n))
-unfolding fresh payload_count_in slots_of
+    m.slots.is_mixed ≡ not (joins_by C) → Shows C l m (fresh_state (rules_by C l n))
+unfolding fresh_state payload_count_in slots_of
 nothing_shown C l n m totals stopped header payload_count bare mixed = search (arith)
 
 module _ (C : Table) (l : Answers) (most : ℕ) (m : FramingView) (s : State) (h : Shows C l m s)
@@ -69,30 +69,31 @@ module _ (C : Table) (l : Answers) (most : ℕ) (m : FramingView) (s : State) (h
     octets_are = search (arith)
 
     -- an octet after the stream fault
-    pub behind_step : (x : ℕ) → is_some m.stopped ≡ true →
+    pub stopped_step : (x : ℕ) → is_some m.stopped ≡ true →
         step R s x ≡ record { state = s; lines = [] }
-    unfolding step octet_at octet_in
-    behind_step x over = search (arith, false≢true)
+    unfolding step kind_of_octet octet_in
+    stopped_step x over = search (arith, false≢true)
 
     -- an octet past the limit
     pub limit_step : (x : ℕ) → m.stopped ≡ None → 2 ^ 48 ≤ m.totals.octets →
-        step R s x ≡ ended s StreamLimit
-    unfolding step octet_at
+        step R s x ≡ stream_fault_step s StreamLimit
+    unfolding step kind_of_octet
     limit_step x free full = search (arith, octet_limit, past_limit, octets_are)
 
     -- ---- The reading ends.
 
     pub ended_text : (fault : StreamFault) →
-        stop_text fault (m.totals.octets + 1) ≡ lines_text (ended s fault).lines
-    unfolding ended lines_text stop_line
+        stop_text fault (m.totals.octets + 1) ≡ lines_text (stream_fault_step s fault).lines
+    unfolding stream_fault_step lines_text stop_line
     ended_text fault = search (arith, octets_are, append-nil)
 
     -- the fields show the end of the reading, whatever header octets were held
     pub ended_shows : (fault : StreamFault) (b : FramingView) →
         b.totals.messages ≡ m.totals.messages
         → b.totals.faults ≡ m.totals.faults → b.slots ≡ m.slots
-        → Shows C l (steps.stop b fault (m.totals.octets + 1)) (ended s fault).state
-    unfolding steps.stop ended payload_count_in
+        → Shows C l (steps.stopped_with b fault (m.totals.octets + 1))
+        (stream_fault_step s fault).state
+    unfolding steps.stopped_with stream_fault_step payload_count_in
     ended_shows fault b messages faults slots = search (arith, octets_are)
 
     -- ---- An octet of a header.
@@ -109,15 +110,18 @@ module _ (C : Table) (l : Answers) (most : ℕ) (m : FramingView) (s : State) (h
       unfolding payload_count_in
       none_come = search (arith, lt-ltb, short)
 
-      octet_is : octet_at s x ≡ front_is front s.totals.messages (suc s.totals.octets) (wrong front)
-      unfolding octet_at
+      octet_is : kind_of_octet s x ≡ kind_after_front front s.totals.messages (suc s.totals.octets)
+          (last_octet_fault front)
+      unfolding kind_of_octet
       octet_is = search (arith, octet_front, within_limit, octets_are, short)
 
-      pub wrong_step : (fault : StreamFault) → wrong front ≡ Some fault → step R s x ≡ ended s fault
+      pub wrong_step : (fault : StreamFault) → last_octet_fault front ≡ Some fault →
+          step R s x ≡ stream_fault_step s fault
       unfolding step
       wrong_step fault e = search (arith, octet_is)
 
-      pub held_step : wrong front ≡ None → (length front ≡ 12 → ⊥) → step R s x ≡ held_on s front
+      pub held_step : last_octet_fault front ≡ None → (length front ≡ 12 → ⊥) →
+          step R s x ≡ header_octet_step s front
       unfolding step
       held_step e other = search (arith, octet_is, front_short, ne_eqb)
 
@@ -125,10 +129,10 @@ module _ (C : Table) (l : Answers) (most : ℕ) (m : FramingView) (s : State) (h
       not_full other = search (arith, cases_eq, length_push)
 
       pub held_shows : (length front ≡ 12 → ⊥) →
-          Shows C l (steps.held_on m x) (held_on s front).state
-      unfolding steps.held_on held_on payload_count_in
+          Shows C l (steps.with_header_octet m x) (header_octet_step s front).state
+      unfolding steps.with_header_octet header_octet_step payload_count_in
       held_shows other = search (arith, not_full, octets_are, none_come, lt-ltb)
 
-      pub held_text : lines_text (held_on s front).lines ≡ []
-      unfolding held_on lines_text
+      pub held_text : lines_text (header_octet_step s front).lines ≡ []
+      unfolding header_octet_step lines_text
       held_text = refl

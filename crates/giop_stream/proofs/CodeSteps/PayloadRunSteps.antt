@@ -8,33 +8,33 @@ use Rattle.std.proofs.lemmas.List.{length_push, length-take-le, get_or_push}
 use Rattle.giop_print.specs.Output.{OutLog, Writes}
 use Rattle.giop_sig.specs.Table.{Table}
 use Rattle.giop_message.specs.Headers.{size}
-use Rattle.giop_stream.specs.Kinds.{named_at}
+use Rattle.giop_stream.specs.Kinds.{lookup_offset}
 use Rattle.giop_message.specs.Signatures.{Answers, signatures_of}
 use Rattle.giop_message.specs.ReaderOfTable.{message_reader}
-use Rattle.giop_message.specs.MessageReader.{IsCausal}
+use Rattle.giop_message.specs.MessageReader.{KeepsEarlierLines}
 use Rattle.giop_message.proofs.MessageLaws.{is_causal}
 use Rattle.giop_stream.specs.declared.current.Current.{Current}
 use Rattle.giop_stream.specs.Rules.{Rules, rules_by}
 use Rattle.giop_stream.specs.Framing.{CutMessage, Cut, with_payload, limit, cut, messages}
-use Rattle.giop_stream.specs.Events.{Takes, MessageKey, Before, events_of_octet, events_at_octet, events, changed, open_after, before_by}
+use Rattle.giop_stream.specs.Events.{Takes, MessageKey, OpenState, events_of_octet, events_at_octet, events, open_after_event, open_after, before_by}
 use Rattle.giop_stream.specs.Lines.{lines}
 use Rattle.giop_stream.specs.Text.{lines_text}
 use Rattle.giop_stream.specs.Stream.{fault_count}
-use Rattle.giop_stream.specs.Effects.{Effect, effects, tracked_at, with_octet, event, effect_to}
+use Rattle.giop_stream.specs.Effects.{Effect, effects, tracked_after_event, with_octet, event, effect_to}
 use Rattle.giop_stream.specs.OpenSlots.{Tracked, tracked_after, before_in}
 use Rattle.giop_stream.specs.SlotsRepresent.{SlotsRepresent}
 use Rattle.giop_stream.specs.PayloadRuns.{run_effect}
-use Rattle.giop_stream.specs.Further.{further}
+use Rattle.giop_stream.specs.Further.{current_after}
 use Rattle.giop_stream.specs.PayloadOwner.{IsBeforeOctet, IsBeforeOctets, IsNewest, effect_before, octet_effect, octets_effect, owner_after, before_with}
 use Rattle.giop_stream.specs.EngineView.{FramingView}
 use Rattle.giop_stream.specs.EngineState.{State, state_of, owner_of_next}
-use Rattle.giop_stream.specs.EngineStep.{runs}
-use Rattle.giop_stream.specs.FramingSteps.{end_message as settled}
+use Rattle.giop_stream.specs.EngineStep.{run_step}
+use Rattle.giop_stream.specs.FramingSteps.{cleared_if_complete as settled}
 use Rattle.giop_stream.specs.ViewOfState.{IsReached, Shows, Does}
-use Rattle.giop_stream.proofs.Cuts.Cutting.{next, of_parts, parts_by, cut_grows, next_payload}
-use Rattle.giop_stream.proofs.Cuts.CutFrom.{end_message}
+use Rattle.giop_stream.proofs.Cuts.Cutting.{next_cut, cut_of_parts, parts_by, cut_grows, next_payload}
+use Rattle.giop_stream.proofs.Cuts.CutFrom.{cut_with_last_message}
 use Rattle.giop_stream.proofs.Events.AfterMoreEvents.{count_append}
-use Rattle.giop_stream.proofs.Events.Soundness.{CurrentFits, IsSound}
+use Rattle.giop_stream.proofs.Events.Soundness.{CurrentFitsStream, IsSound}
 use Rattle.giop_stream.proofs.Events.StepCases.{place_more, if_some}
 use Rattle.giop_stream.proofs.Events.MessageKinds.{named_either, named_within, placed_named, later_new}
 use Rattle.giop_stream.proofs.SlotSteps.OneSlotChanges.{mixes_not, mixed_same}
@@ -42,7 +42,7 @@ use Rattle.giop_stream.proofs.SlotSteps.Alike.{next_alike}
 use Rattle.giop_stream.proofs.SlotSteps.AfterOctet.{owner_elsewhere}
 use Rattle.giop_stream.proofs.SlotSteps.Parts.{in_turn, octet_does, owner_next}
 use Rattle.giop_stream.proofs.SlotSteps.RequestIds.{says_id}
-use Rattle.giop_stream.proofs.CodeSteps.OneOctet.{Adds, paid_is}
+use Rattle.giop_stream.proofs.CodeSteps.OneOctet.{AddsLinesAndState, paid_is}
 use Rattle.giop_stream.proofs.CodeSteps.EngineAlive.{sound, alive}
 use Rattle.giop_stream.proofs.CodeSteps.WhatStands.{before_is}
 use Rattle.giop_stream.proofs.CodeSteps.MessageOctets.{does_run, runs_on, all_read, owned_at, faults_at, header_is, come_is, number_is, size_few, current_fits, right, effect_of, settled_shows}
@@ -52,26 +52,26 @@ use Rattle.giop_stream.proofs.CodeSteps.MessageEnds.{goes_on}
 
 -- The next n octets are payload of m, the current message: none of them is the last of its request
 -- id or of the message.
-pub record Within (p : List ℕ) (m : CutMessage) (n : ℕ) : Type 0 where
-  pub free : (cut p).stop ≡ None
-  pub current : (cut p).current ≡ Some m
-  pub apart : length m.payload < 4 → length m.payload + n < 4
-  pub before_last : length m.payload + n < size m.header
-  pub room : length p + n ≤ limit
+pub record IsWithinPayload (stream : List ℕ) (message : CutMessage) (n : ℕ) : Type 0 where
+  pub free : (cut stream).stop ≡ None
+  pub current : (cut stream).current ≡ Some message
+  pub apart : length message.payload < 4 → length message.payload + n < 4
+  pub before_last : length message.payload + n < size message.header
+  pub room : length stream + n ≤ limit
 
-within_grows : (p : List ℕ) (m : CutMessage) (x n : ℕ) → Within p m (suc n) →
-    cut (p ++ x ∷ []) ≡ of_parts (cut p).whole (Some (with_octet m x)) [] None
+within_grows : (p : List ℕ) (m : CutMessage) (x n : ℕ) → IsWithinPayload p m (suc n) →
+    cut (p ++ x ∷ []) ≡ cut_of_parts (cut p).whole (Some (with_octet m x)) [] None
 within_grows p m x n h =
     cut_grows p x
-    ∙ (ap (next (length p) x) (parts_by (cut p) (Some m) None h.current h.free)
+    ∙ (ap (next_cut (length p) x) (parts_by (cut p) (Some m) None h.current h.free)
     ∙ (next_payload (cut p).whole m (cut p).held (length p) x
     (le-ltb limit (suc (length p)) (omega (arith, h.room)))
     ∙ goes_on (cut p).whole (with_octet m x)
     (omega (arith, h.before_last, length_push m.payload x))))
 
 -- the message has no place at the next octet
-not_named : (p : List ℕ) (m : CutMessage) (x n : ℕ) → Within p m (suc n) →
-    length (m.payload ++ x ∷ []) ≢ named_at m.header
+not_named : (p : List ℕ) (m : CutMessage) (x n : ℕ) → IsWithinPayload p m (suc n) →
+    length (m.payload ++ x ∷ []) ≢ lookup_offset m.header
 not_named p m x n h e = elim (named_either m.header) [
   | inl none ↦ omega (arith, e, none, length_push m.payload x)
   | inr four ↦ elim (cases_lt (length m.payload) 4) [
@@ -80,9 +80,9 @@ not_named p m x n h e = elim (named_either m.header) [
   ]
 ]
 
-pub within_on : (p : List ℕ) (m : CutMessage) (x n : ℕ) → Within p m (suc n) →
-    Within (p ++ x ∷ []) (with_octet m x) n
-unfolding of_parts
+pub within_on : (p : List ℕ) (m : CutMessage) (x n : ℕ) → IsWithinPayload p m (suc n) →
+    IsWithinPayload (p ++ x ∷ []) (with_octet m x) n
+unfolding cut_of_parts
 within_on p m x n h =
     let grown = within_grows p m x n h in
     record {
@@ -98,22 +98,22 @@ within_on p m x n h =
     }
 
 -- the octet's only event is that a message takes it
-comes_alone : (most : ℕ) (b : Before) (m : CutMessage) → 0 < length m.payload →
-    length m.payload ≢ named_at m.header → length m.payload < size m.header →
+comes_alone : (most : ℕ) (b : OpenState) (m : CutMessage) → 0 < length m.payload →
+    length m.payload ≢ lookup_offset m.header → length m.payload < size m.header →
     events_of_octet most b m ≡ events_at_octet b m
 unfolding events_of_octet
 comes_alone most b m some other less = search (arith, ne_eqb, append-nil)
 
 -- the next octet belongs to the same message
-owner_on : (b : Before) (m : CutMessage) (x : ℕ) →
-    length (m.payload ++ x ∷ []) ≢ named_at m.header →
+owner_on : (b : OpenState) (m : CutMessage) (x : ℕ) →
+    length (m.payload ++ x ∷ []) ≢ lookup_offset m.header →
     owner_of_next b (with_octet m x) ≡ owner_of_next b m
 owner_on b m x other = search (arith, owner_elsewhere, ne_eqb, owner_next)
 
 module _ (C : Table) (l : Answers) where
   takes_still_open : (at : ℕ) (c : Tracked) (w : Option MessageKey) (x : ℕ) →
       (effect_to C l at c w (Takes x)).tracked.still_open ≡ c.still_open
-  unfolding tracked_at changed
+  unfolding tracked_after_event open_after_event
   takes_still_open at c None x = refl
   takes_still_open at c (Some w) x = refl
 
@@ -124,7 +124,8 @@ module _ (C : Table) (l : Answers) where
       mixed_same (message_reader C l) c (event at w (Takes x))
       (mixes_not (event at w (Takes x)) refl)
 
-  module _ (most : ℕ) (p : List ℕ) (m : CutMessage) (x n : ℕ) (h : Within p m (suc n)) where
+  module _ (most : ℕ) (p : List ℕ) (m : CutMessage) (x n : ℕ) (h : IsWithinPayload p m
+      (suc n)) where
     abbrev by_these : Rules
     by_these = rules_by C l most
 
@@ -133,9 +134,9 @@ module _ (C : Table) (l : Answers) where
         sound by_these (is_causal (λ phase number. signatures_of C (l number) phase))
         (in_turn C l) p
 
-    at_hand : CurrentFits (length p) (cut p) m
+    at_hand : CurrentFitsStream (length p) (cut p) m
     at_hand =
-        if_some (CurrentFits (length p) (cut p)) (cut p).current m h.current
+        if_some (CurrentFitsStream (length p) (cut p)) (cut p).current m h.current
         (is_sound.fits h.free).current
 
     -- the octet's effect on the message to which it belongs
@@ -157,8 +158,8 @@ module _ (C : Table) (l : Answers) where
         (octet_does C l (tracked_after by_these p) b (with_octet m x) x (suc (length p)) last
         (place_more m x (length p) at_hand.place_is))
 
-    pub octet_adds : Adds by_these p (p ++ x ∷ [])
-        (end_message (cut p).whole (with_octet m x)) taken.lines taken.tracked
+    pub octet_adds : AddsLinesAndState by_these p (p ++ x ∷ [])
+        (cut_with_last_message (cut p).whole (with_octet m x)) taken.lines taken.tracked
     octet_adds =
         let room = le-ltb limit (suc (length p)) (omega (arith, h.room)) in
         rw octet_takes at (paid_is by_these
@@ -177,18 +178,19 @@ module _ (C : Table) (l : Answers) where
         ≡ before_in by_these.asks taken.tracked =
         sym (before_is by_these p' octet_adds.sound)
         ∙ ap (before_in by_these.asks) octet_adds.tracked_after in
-        ap (λ (b : Before). owner_of_next b (with_octet m x)) after
+        ap (λ (b : OpenState). owner_of_next b (with_octet m x)) after
         ∙ (next_alike (before_in by_these.asks c) (before_in by_these.asks taken.tracked)
         (with_octet m x)
         (record {
           still_open = takes_still_open (suc (length p)) c w x;
           mixed = takes_mixed (suc (length p)) c w x;
         })
-        ∙ (ap (λ (b : Before). owner_of_next b (with_octet m x)) (before_is by_these p is_sound)
+        ∙ (ap (λ (b : OpenState). owner_of_next b (with_octet m x)) (before_is by_these p is_sound)
         ∙ owner_on (before_by by_these (events by_these p)) m x (not_named p m x n h)))
 
 -- fewer than n octets are payload of m too
-pub within_less : (p : List ℕ) (m : CutMessage) (k n : ℕ) → k ≤ n → Within p m n → Within p m k
+pub within_less : (p : List ℕ) (m : CutMessage) (k n : ℕ) → k ≤ n → IsWithinPayload p m n →
+    IsWithinPayload p m k
 within_less p m k n less h = record {
   free = h.free;
   current = h.current;
@@ -198,9 +200,9 @@ within_less p m k n less h = record {
 }
 
 -- no message begins in these octets
-pub none_begin : (xs p : List ℕ) (m : CutMessage) → Within p m (length xs) →
+pub none_begin : (xs p : List ℕ) (m : CutMessage) → IsWithinPayload p m (length xs) →
     length (messages (cut (p ++ xs))) ≡ length (messages (cut p))
-unfolding of_parts messages
+unfolding cut_of_parts messages
 none_begin [] p m h = ap (λ z. length (messages (cut z))) (append-nil p)
 none_begin (x ∷ xs) p m h =
     let grown = ap (λ (c : Cut). length (messages c)) (within_grows p m x (length xs) h) in
@@ -221,25 +223,28 @@ none_begin (x ∷ xs) p m h =
 -- ---- All of the octets.
 
 -- what stands before the next octet of the stream p
-abbrev pub before_of : Table → Answers → ℕ → List ℕ → Before
+abbrev pub before_of : (C : Table) (answers : Answers) (most : ℕ) (stream : List ℕ) → OpenState
 before_of C l most p = before_by (rules_by C l most) (events (rules_by C l most) p)
 
 -- the stream p with these octets, if m is its current message
-pub record IsRun (C : Table) (l : Answers) (most : ℕ) (p : List ℕ) (m : CutMessage) (q : List ℕ) :
+pub record IsRun (C : Table) (answers : Answers) (most : ℕ) (stream : List ℕ) (message : CutMessage)
+    (q : List ℕ) :
     Type
     0 where
-  pub within : Within (p ++ q) (with_payload m (m.payload ++ q)) 0
-  pub lines : lines (rules_by C l most) (p ++ q) ≡ lines
-      (rules_by C l most) p ++ (run_effect C l (length p) (tracked_after (rules_by C l most) p)
-      (owner_of_next (before_of C l most p) m) q).lines
-  pub tracked_after : tracked_after (rules_by C l most) (p ++ q)
-      ≡ (run_effect C l (length p) (tracked_after (rules_by C l most) p)
-      (owner_of_next (before_of C l most p) m) q).tracked
-  pub owner_of_next : owner_of_next (before_of C l most (p ++ q)) (with_payload m (m.payload ++ q))
-      ≡ owner_of_next (before_of C l most p) m
+  pub within : IsWithinPayload (stream ++ q) (with_payload message (message.payload ++ q)) 0
+  pub lines : lines (rules_by C answers most) (stream ++ q) ≡ lines
+      (rules_by C answers most) stream ++ (run_effect C answers (length stream) (tracked_after
+      (rules_by C answers most) stream)
+      (owner_of_next (before_of C answers most stream) message) q).lines
+  pub tracked_after : tracked_after (rules_by C answers most) (stream ++ q)
+      ≡ (run_effect C answers (length stream) (tracked_after (rules_by C answers most) stream)
+      (owner_of_next (before_of C answers most stream) message) q).tracked
+  pub owner_of_next : owner_of_next (before_of C answers most (stream ++ q)) (with_payload message
+      (message.payload ++ q))
+      ≡ owner_of_next (before_of C answers most stream) message
 
 module _ (C : Table) (l : Answers) where
-  pub run_is : (most : ℕ) (q p : List ℕ) (m : CutMessage) → Within p m (length q) →
+  pub run_is : (most : ℕ) (q p : List ℕ) (m : CutMessage) → IsWithinPayload p m (length q) →
       IsRun C l most p m q
   unfolding run_effect
   run_is most [] p m h = search (arith, append-nil)
@@ -254,8 +259,9 @@ module _ (C : Table) (l : Answers) where
       let one = octet_adds C l most p m x (length q) h in
       let who = octet_owner C l most p m x (length q) h in
       record {
-        within = subst (λ (z : List ℕ). Within (p ++ x ∷ q) (with_payload m z) 0) payload
-            (subst (λ (r : List ℕ). Within r (with_payload m ((m.payload ++ x ∷ []) ++ q)) 0) all
+        within = subst (λ (z : List ℕ). IsWithinPayload (p ++ x ∷ q) (with_payload m z) 0) payload
+            (subst (λ (r : List ℕ). IsWithinPayload r (with_payload m ((m.payload ++ x ∷ [])
+            ++ q)) 0) all
             more.within);
         lines = ap (lines R) (sym all) ∙ (more.lines
             ∙ ((λ j. one.lines j ++ (run_effect C l (at j) (one.tracked_after j) (who j) q).lines)
@@ -303,7 +309,7 @@ module _ (C : Table) (l : Answers) (most : ℕ) (s : State) (reached : IsReached
   abbrev p : List ℕ
   p = reached.stream
 
-  causal : IsCausal R.reading
+  causal : KeepsEarlierLines R.reading
   causal = search (arith, is_causal)
 
   pub all : m.totals.octets ≡ length p
@@ -329,7 +335,7 @@ module _ (C : Table) (l : Answers) (most : ℕ) (s : State) (reached : IsReached
   before_last : m.payload_count + length q < size m.header
   before_last = search (arith, before_all, header, one_more, lacks)
 
-  pub begins : Within p c (length q)
+  pub begins : IsWithinPayload p c (length q)
   unfolding limit
   begins = record {
     free = runs_on C l most s reached m h free;
@@ -357,8 +363,8 @@ module _ (C : Table) (l : Answers) (most : ℕ) (s : State) (reached : IsReached
   so : IsSound R p'
   so = sound R causal (in_turn C l) p'
 
-  fits : CurrentFits (length p') (cut p') c'
-  fits = if_some (CurrentFits (length p') (cut p')) (cut p').current c' run.within.current
+  fits : CurrentFitsStream (length p') (cut p') c'
+  fits = if_some (CurrentFitsStream (length p') (cut p')) (cut p').current c' run.within.current
       (so.fits run.within.free).current
 
   abbrev last_does : Effect
@@ -367,11 +373,14 @@ module _ (C : Table) (l : Answers) (most : ℕ) (s : State) (reached : IsReached
   so_p : IsSound R p
   so_p = sound R causal (in_turn C l) p
 
-  paid : Adds R p' (p' ++ x ∷ []) (end_message (cut p').whole (with_octet c' x)) last_does.lines
+  paid : AddsLinesAndState R p' (p' ++ x ∷ []) (cut_with_last_message (cut p').whole
+      (with_octet c' x)) last_does.lines
       last_does.tracked
   unfolding limit
   paid =
-      subst (λ (b : Before). Adds R p' (p' ++ x ∷ []) (end_message (cut p').whole (with_octet c' x))
+      subst (λ (b : OpenState). AddsLinesAndState R p' (p' ++ x ∷ []) (cut_with_last_message
+      (cut p').whole
+      (with_octet c' x))
       (effects R.reading (tracked_after R p') (events_of_octet most b (with_octet c' x))).lines
       (effects R.reading (tracked_after R p') (events_of_octet most b (with_octet c' x))).tracked)
       (sym (before_is R p' so))
@@ -425,7 +434,7 @@ module _ (C : Table) (l : Answers) (most : ℕ) (s : State) (reached : IsReached
         );
       };
       payload_count = omega (arith, payload_count, here, one_more, length-append c.payload q);
-      newest = if_some (λ m. length m.payload < named_at m.header →
+      newest = if_some (λ m. length m.payload < lookup_offset m.header →
           IsNewest m.number (open_after R p'))
           (cut p').current c' run.within.current (so.early run.within.free);
       alive = λ place less. alive R causal (in_turn C l) p' run.within.free c' run.within.current
@@ -441,9 +450,9 @@ module _ (C : Table) (l : Answers) (most : ℕ) (s : State) (reached : IsReached
       keeps = run_keeps;
       rising = so_p.rising;
       same_owner = ap (λ (t : Tracked). owner_of_next (before_with C l t) c') ran_then
-          ∙ (ap (λ (b : Before). owner_of_next b c') (before_is R p' so)
+          ∙ (ap (λ (b : OpenState). owner_of_next b c') (before_is R p' so)
           ∙ (run.owner_of_next
-          ∙ ap (λ (b : Before). owner_of_next b c) (sym (before_is R p so_p))));
+          ∙ ap (λ (b : OpenState). owner_of_next b c) (sym (before_is R p so_p))));
       last = subst (λ (t : Tracked). IsBeforeOctet t c' now x) (sym ran_then) before_x;
     }
 
@@ -452,7 +461,7 @@ module _ (C : Table) (l : Answers) (most : ℕ) (s : State) (reached : IsReached
     abbrev all_do : Effect
     all_do = octets_effect C l most (tracked_after R p) c now q x
 
-    abbrev x_does : Tracked → Effect
+    abbrev x_does : (tracked : Tracked) → Effect
     x_does t = octet_effect C l most t (with_octet c' x)
 
     grows : lines R (p ++ octets) ≡ lines R p ++ all_do.lines
@@ -463,7 +472,7 @@ module _ (C : Table) (l : Answers) (most : ℕ) (s : State) (reached : IsReached
     pub run_does : {A E : Type 0} (result : Result A E) (before after : OutLog) (f : FramingView)
         → Writes result before after (lines_text all_do.lines) →
         OnOk result (Shows C l f (state_of R (p ++ octets)))
-        → Does C l result before after f (runs R s octets)
+        → Does C l result before after f (run_step R s octets)
     run_does result before after f text shows = search (arith, does_run, grows)
 
     pub run_shows : (b f : FramingView) (k : ℕ) → f ≡ settled b k →
@@ -526,7 +535,7 @@ module _ (C : Table) (l : Answers) (most : ℕ) (s : State) (reached : IsReached
   parts = octets_are xs (omega (arith, long, some))
 
   abbrev pub now : Current
-  now = further before (suc (length parts.0))
+  now = current_after before (suc (length parts.0))
 
   apart_then : m.payload_count < 4 → m.payload_count + length xs ≤ 4
   apart_then less = omega (arith, long, within, apart less)
@@ -564,7 +573,7 @@ module _ (C : Table) (l : Answers) (most : ℕ) (s : State) (reached : IsReached
   pub taken_does : {A E : Type 0} (result : Result A E) (a b : OutLog) (f : FramingView) →
       Writes result a b (lines_text taken_do.lines) →
       OnOk result (Shows C l f (state_of (rules_by C l most) (reached.stream ++ xs))) →
-      Does C l result a b f (runs (rules_by C l most) s xs)
+      Does C l result a b f (run_step (rules_by C l most) s xs)
   taken_does result a b f text shows =
       run_does C l most s reached m h free c current xs parts.0 parts.1.0 parts.1.1 apart_then
       few_then room_then now known.0 known.1 place_is count_is result a b f text shows

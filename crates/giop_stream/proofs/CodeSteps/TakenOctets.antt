@@ -19,7 +19,7 @@ use Rattle.giop_stream.specs.ViewOfState.{IsReached, Shows}
 use Rattle.giop_stream.proofs.Cuts.MessagesGrow.{messages_grow}
 use Rattle.giop_stream.proofs.CodeSteps.MessageOctets.{has_current}
 use Rattle.giop_stream.proofs.CodeSteps.PayloadRunSteps.{begins, within_less, none_begin, octets_are}
-use Rattle.giop_stream.proofs.CodeSteps.HeaderEndSteps.{AreUntold, untold_front, agrees_front, from_append, told_run}
+use Rattle.giop_stream.proofs.CodeSteps.HeaderEndSteps.{AreWithoutEvents, untold_front, agrees_front, from_append, told_run}
 
 -- the first octet of octets
 pub first_alone : (octets : List ℕ) → 0 < length octets → take 1 octets ≡ get_or octets 0 0 ∷ []
@@ -39,11 +39,12 @@ front_agrees answer notified C a st R p octets n agrees =
 
 -- if nothing is told of octets, nothing is told of a front of them
 pub front_untold : (C : Table) (R : Rules) (p octets : List ℕ) (n : ℕ) →
-    AreUntold C (header_ends_from R p octets) → AreUntold C (header_ends_from R p (take n octets))
+    AreWithoutEvents C (header_ends_from R p octets) → AreWithoutEvents C (header_ends_from R p
+    (take n octets))
 front_untold C R p octets n untold =
     untold_front C (header_ends_from R p (take n octets))
     (header_ends_from R (p ++ take n octets) (drop n octets))
-    (subst (AreUntold C) (ap (header_ends_from R p) (sym (take-append-drop n octets))
+    (subst (AreWithoutEvents C) (ap (header_ends_from R p) (sym (take-append-drop n octets))
     ∙ from_append R (take n octets) p (drop n octets)) untold)
 
 -- ---- no message begins

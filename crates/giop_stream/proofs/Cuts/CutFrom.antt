@@ -4,42 +4,46 @@ use Rattle.std.specs.Prelude.{nat_lt, ◌==◌, if◌then◌else◌}
 use Rattle.std.proofs.lemmas.Bool.{lt-ltb, le-ltb, cases_lt, eq-eqb, ne_eqb}
 use Rattle.std.proofs.lemmas.List.{take-append-le, drop-append-le, take_all, drop_all, length_push}
 use Rattle.giop_checkpoint.specs.declared.fault.StreamFault.{StreamFault}
-use Rattle.giop_stream.specs.HeaderOctets.{wrong, first_wrong, fronts, first_wrong_octet}
+use Rattle.giop_stream.specs.HeaderOctets.{last_octet_fault, first_front_fault, fronts, first_wrong_octet}
 use Rattle.giop_message.specs.Headers.{size}
 use Rattle.giop_stream.specs.Framing.{CutMessage, with_payload, Cut, with_first, cut_from}
 use Rattle.giop_stream.proofs.Lists.{wrong_last, offence_stays, offence_comes}
 
 -- the last message: among the complete ones if it has all its octets, else the current one
-unfoldable pub end_message : List CutMessage → CutMessage → Cut
-end_message whole m =
+unfoldable pub cut_with_last_message : (whole : List CutMessage) (message : CutMessage) → Cut
+cut_with_last_message whole m =
     if nat_lt (length m.payload) (size m.header)
     then record { whole = whole; current = Some m; held = []; stop = None }
     else record { whole = whole ++ m ∷ []; current = None; held = []; stop = None }
 
-unfoldable pub header_case : ℕ → ℕ → List CutMessage → List ℕ → Option StreamFault → Bool → Cut
+unfoldable pub header_case : (first n : ℕ) (whole : List CutMessage) (front : List ℕ)
+    (word : Option StreamFault) (twelve : Bool) → Cut
 header_case first n whole front (Some word) twelve =
     record { whole = whole; current = None; held = []; stop = Some (n, word) }
 header_case first n whole front None false =
     record { whole = whole; current = None; held = front; stop = None }
 header_case first n whole front None true =
-    end_message whole (record {
+    cut_with_last_message whole (record {
       number = first + length whole;
       before = n - 12;
       header = front;
       payload = [];
     })
 
-unfoldable pub header_grows : ℕ → ℕ → List CutMessage → List ℕ → Cut
-header_grows first n whole front = header_case first n whole front (wrong front)
+unfoldable pub cut_with_header_octet : (first n : ℕ) (whole : List CutMessage) (front : List ℕ) →
+    Cut
+cut_with_header_octet first n whole front = header_case first n whole front (last_octet_fault front)
     (length front == 12)
 
-abbrev pub grow_by : ℕ → ℕ → ℕ → Cut → Option (ℕ × StreamFault) → Option CutMessage → Cut
-grow_by first n x c (Some found) current = c
-grow_by first n x c None (Some m) = end_message c.whole (with_payload m (m.payload ++ x ∷ []))
-grow_by first n x c None None = header_grows first n c.whole (c.held ++ x ∷ [])
+abbrev pub cut_with_octet_by : (first n x : ℕ) (cut_stream : Cut) (found : Option (ℕ × StreamFault))
+    (current : Option CutMessage) → Cut
+cut_with_octet_by first n x c (Some found) current = c
+cut_with_octet_by first n x c None (Some m) = cut_with_last_message c.whole (with_payload m
+    (m.payload ++ x ∷ []))
+cut_with_octet_by first n x c None None = cut_with_header_octet first n c.whole (c.held ++ x ∷ [])
 
-unfoldable pub grow : ℕ → ℕ → ℕ → Cut → Cut
-grow first n x c = grow_by first n x c c.stop c.current
+unfoldable pub cut_with_octet : (first n x : ℕ) (cut_stream : Cut) → Cut
+cut_with_octet first n x c = cut_with_octet_by first n x c c.stop c.current
 
 nothing : Cut
 nothing = record { whole = []; current = None; held = []; stop = None }
@@ -93,7 +97,7 @@ unfolding cut_from
 cut_more fuel number before xs e h k = search (arith, le-ltb, drop, take)
 
 cut_none : (fuel number before : ℕ) → cut_from fuel number before [] ≡ nothing
-unfolding cut_from nothing first_wrong_octet fronts first_wrong wrong
+unfolding cut_from nothing first_wrong_octet fronts first_front_fault last_octet_fault
 cut_none zero number before = refl
 cut_none (suc fuel) number before = refl
 
@@ -114,23 +118,29 @@ comes : (xs : List ℕ) (x : ℕ) → length xs < 12 → first_wrong_octet (take
 comes xs x h e = search (arith, front_whole, offence_comes, take_all)
 
 settle_open : (whole : List CutMessage) (m : CutMessage) → length m.payload < size m.header
-    → end_message whole m ≡ record { whole = whole; current = Some m; held = []; stop = None }
-unfolding end_message
+    → cut_with_last_message whole m ≡ record {
+      whole = whole;
+      current = Some m;
+      held = [];
+      stop =
+          None;
+    }
+unfolding cut_with_last_message
 settle_open whole m h = search (arith, lt-ltb)
 
 settle_done : (whole : List CutMessage) (m : CutMessage) → size m.header ≤ length m.payload
-    → end_message whole m ≡ record {
+    → cut_with_last_message whole m ≡ record {
       whole = whole ++ m ∷ [];
       current = None;
       held = [];
       stop =
           None;
     }
-unfolding end_message
+unfolding cut_with_last_message
 settle_done whole m h = search (arith, le-ltb)
 
 -- a message that is complete, with no octets after it
-done_is : (fuel number before : ℕ) (m : CutMessage) (c : Cut) → c ≡ end_message [] m →
+done_is : (fuel number before : ℕ) (m : CutMessage) (c : Cut) → c ≡ cut_with_last_message [] m →
     size m.header ≤ length m.payload
     → c ≡ with_first m (cut_from fuel number before [])
 unfolding with_first nothing
@@ -141,7 +151,7 @@ cut_is : (fuel number before : ℕ) (ys header payload : List ℕ) → take 12 y
     drop 12 ys ≡ payload
     → first_wrong_octet header ≡ None → 12 ≤ length ys → length payload ≤ size header
     → cut_from (suc fuel) number before ys
-    ≡ end_message [] (record {
+    ≡ cut_with_last_message [] (record {
       number = number;
       before = before;
       header = header;
@@ -162,27 +172,27 @@ cut_is fuel number before ys header payload t d e h k = search (
 -- The lemma for a stream that is longer by an octet, in each case.
 Grows : ℕ → ℕ → ℕ → List ℕ → ℕ → Type 0
 Grows fuel number before xs x = cut_from fuel number before (xs ++ x ∷ [])
-    ≡ grow number (suc (before + length xs)) x (cut_from fuel number before xs)
+    ≡ cut_with_octet number (suc (before + length xs)) x (cut_from fuel number before xs)
 
 grows_wrong : (fuel number before : ℕ) (xs : List ℕ) (x : ℕ) (found : ℕ × StreamFault) →
     first_wrong_octet (take 12 xs) ≡ Some found → Grows (suc fuel) number before xs x
-unfolding Grows grow
+unfolding Grows cut_with_octet
 grows_wrong fuel number before xs x found e = search (arith, cut_wrong, wrong_kept)
 
 -- the rest of the stream ends inside a header
 header_is : (fuel number before : ℕ) (xs : List ℕ) (x : ℕ) → length xs < 12 →
     first_wrong_octet (take 12 xs) ≡ None
-    → (w : Option StreamFault) → wrong (xs ++ x ∷ []) ≡ w
+    → (w : Option StreamFault) → last_octet_fault (xs ++ x ∷ []) ≡ w
     → cut_from (suc fuel) number before (xs ++ x ∷ [])
-    ≡ header_grows number (suc (before + length xs)) [] (xs ++ x ∷ [])
-unfolding header_grows header_case wrong_last
+    ≡ cut_with_header_octet number (suc (before + length xs)) [] (xs ++ x ∷ [])
+unfolding cut_with_header_octet header_case wrong_last
 header_is fuel number before xs x h e (Some word) k =
     let found : first_wrong_octet (take 12 (xs ++ x ∷ [])) ≡ Some (length (xs ++ x ∷ []), word) =
     comes xs x h e ∙ rw (wrong_last, k) refl in
     let n : before + length (xs ++ x ∷ []) ≡ suc (before + length xs) =
     omega (arith, length_push xs x) in
     cut_wrong fuel number before (xs ++ x ∷ []) (length (xs ++ x ∷ []), word) found
-    ∙ rw (header_grows, k, n) refl
+    ∙ rw (cut_with_header_octet, k, n) refl
 header_is fuel number before xs x h e None k = search (
   arith,
   take,
@@ -200,13 +210,13 @@ header_is fuel number before xs x h e None k = search (
 
 grows_header : (fuel number before : ℕ) (xs : List ℕ) (x : ℕ) → length xs < 12 →
     first_wrong_octet (take 12 xs) ≡ None → Grows (suc fuel) number before xs x
-unfolding Grows grow
+unfolding Grows cut_with_octet
 grows_header fuel number before xs x h e = search (arith, cut_short, header_is)
 
 grows_open : (fuel number before : ℕ) (xs : List ℕ) (x : ℕ) →
     first_wrong_octet (take 12 xs) ≡ None → 12 ≤ length xs
     → length (drop 12 xs) < size (take 12 xs) → Grows (suc fuel) number before xs x
-unfolding Grows grow
+unfolding Grows cut_with_octet
 grows_open fuel number before xs x e h k = search (
   arith,
   cut_open,
@@ -220,8 +230,8 @@ grows_open fuel number before xs x e h k = search (
 
 -- the same with one more message before the others
 first_settles : (m : CutMessage) (whole : List CutMessage) (last : CutMessage) →
-    with_first m (end_message whole last) ≡ end_message (m ∷ whole) last
-unfolding with_first end_message
+    with_first m (cut_with_last_message whole last) ≡ cut_with_last_message (m ∷ whole) last
+unfolding with_first cut_with_last_message
 first_settles m whole last = search (arith)
 
 first_case : (number n : ℕ) (m : CutMessage) (whole : List CutMessage) (front : List ℕ)
@@ -235,26 +245,26 @@ first_case number n m whole front None true = search (arith, first_settles)
 
 first_grows_at : (number n x : ℕ) (m : CutMessage) (whole : List CutMessage) (held : List ℕ)
     (current : Option CutMessage) (stop : Option (ℕ × StreamFault))
-    → with_first m (grow (suc number) n x (record {
+    → with_first m (cut_with_octet (suc number) n x (record {
       whole = whole;
       current = current;
       held = held;
       stop = stop;
     }))
-    ≡ grow number n x (with_first m (record {
+    ≡ cut_with_octet number n x (with_first m (record {
       whole = whole;
       current = current;
       held = held;
       stop =
           stop;
     }))
-unfolding with_first grow header_grows
+unfolding with_first cut_with_octet cut_with_header_octet
 first_grows_at number n x m whole held current (Some found) = refl
 first_grows_at number n x m whole held (Some last) None = search (arith, first_settles)
 first_grows_at number n x m whole held None None = search (arith, first_case)
 
 first_grows : (number n x : ℕ) (m : CutMessage) (c : Cut) →
-    with_first m (grow (suc number) n x c) ≡ grow number n x (with_first m c)
+    with_first m (cut_with_octet (suc number) n x c) ≡ cut_with_octet number n x (with_first m c)
 first_grows number n x m c = search (arith, first_grows_at)
 
 grows_more : (fuel number before : ℕ) (xs : List ℕ) (x : ℕ) →
@@ -294,7 +304,7 @@ grows_by fuel number before xs x h ih None e = search (
 
 pub cut_from_grows : (fuel number before : ℕ) (xs : List ℕ) (x : ℕ) → length xs < fuel
     → cut_from fuel number before (xs ++ x ∷ [])
-    ≡ grow number (suc (before + length xs)) x (cut_from fuel number before xs)
+    ≡ cut_with_octet number (suc (before + length xs)) x (cut_from fuel number before xs)
 unfolding Grows
 cut_from_grows zero number before xs x h = absurd (omega arith)
 cut_from_grows (suc fuel) number before xs x h =

@@ -3,13 +3,13 @@ use Rattle.std.proofs.Common.{◌≡◌, ℕ, suc, ◌+◌, ◌-◌, ◌≤◌, 
 use Rattle.std.specs.Prelude.{◌==◌, nat_lt}
 use Rattle.std.proofs.lemmas.List.{length_push}
 use Rattle.giop_checkpoint.specs.declared.fault.StreamFault.{StreamFault}
-use Rattle.giop_stream.specs.HeaderOctets.{wrong}
+use Rattle.giop_stream.specs.HeaderOctets.{last_octet_fault}
 use Rattle.giop_stream.specs.Framing.{CutMessage, Cut, limit, cut, messages, with_payload}
-use Rattle.giop_stream.proofs.Cuts.Cutting.{of_parts, next, cut_grows, next_limit, next_payload, next_front, next_stopped, settled_messages}
+use Rattle.giop_stream.proofs.Cuts.Cutting.{cut_of_parts, next_cut, cut_grows, next_limit, next_payload, next_front, next_stopped, settled_messages}
 use Rattle.giop_stream.proofs.Cuts.CutFrom.{header_case}
 
 -- how many messages a cut has
-abbrev Count : Cut → ℕ
+abbrev Count : (cut_stream : Cut) → ℕ
 Count c = length (messages c)
 
 front_grows : (first n : ℕ) (whole : List CutMessage) (front : List ℕ) (o : Option StreamFault)
@@ -28,8 +28,9 @@ front_grows first n whole front None true =
 
 module _ (whole : List CutMessage) (held : List ℕ) (n x : ℕ) where
   next_grows : (current : Option CutMessage) (stop : Option (ℕ × StreamFault)) →
-      Count (of_parts whole current held stop) ≤ Count (next n x (of_parts whole current held stop))
-  unfolding of_parts messages
+      Count (cut_of_parts whole current held stop) ≤ Count (next_cut n x
+      (cut_of_parts whole current held stop))
+  unfolding cut_of_parts messages
   next_grows current (Some found) = omega (
     arith,
     ap Count (next_stopped whole current held found
@@ -38,8 +39,8 @@ module _ (whole : List CutMessage) (held : List ℕ) (n x : ℕ) where
   next_grows current None = go (nat_lt limit (suc n)) refl current
     where
       go : (b : Bool) → nat_lt limit (suc n) ≡ b → (current : Option CutMessage) →
-          Count (of_parts whole current held None)
-          ≤ Count (next n x (of_parts whole current held None))
+          Count (cut_of_parts whole current held None)
+          ≤ Count (next_cut n x (cut_of_parts whole current held None))
       go true e current = omega (arith, ap Count (next_limit whole current held n x e))
       go false e (Some m) = omega (
         arith,
@@ -51,13 +52,13 @@ module _ (whole : List CutMessage) (held : List ℕ) (n x : ℕ) where
       go false e None = omega (
         arith,
         ap Count (next_front whole held n x e),
-        front_grows 1 (suc n) whole (held ++ x ∷ []) (wrong (held ++ x ∷ []))
+        front_grows 1 (suc n) whole (held ++ x ∷ []) (last_octet_fault (held ++ x ∷ []))
             (length (held ++ x ∷ []) == 12),
         length-append whole [],
       )
 
 one_grows : (p : List ℕ) (x : ℕ) → Count (cut p) ≤ Count (cut (p ++ x ∷ []))
-unfolding of_parts
+unfolding cut_of_parts
 one_grows p x = omega (
   arith,
   ap Count (cut_grows p x),

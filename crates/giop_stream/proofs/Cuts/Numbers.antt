@@ -10,7 +10,7 @@ use Rattle.giop_stream.specs.Framing.{CutMessage, with_first, cut_from, limit, l
 use Rattle.giop_stream.proofs.Cuts.CutFrom.{cut_wrong, cut_short, cut_open, cut_more}
 
 -- the numbers of the messages are n, n + 1, and so on
-abbrev NumberedFrom : ℕ → List CutMessage → Type 0
+abbrev NumberedFrom : (n : ℕ) (messages : List CutMessage) → Type 0
 NumberedFrom n [] = Unit {0}
 NumberedFrom n (m ∷ ms) = (m.number ≡ n) × NumberedFrom (suc n) ms
 
@@ -51,27 +51,28 @@ pub header_of_number : List CutMessage → ℕ → Option (List ℕ)
 header_of_number [] n = None
 header_of_number (m ∷ ms) n = if m.number == n then Some m.header else header_of_number ms n
 
-abbrev IsOfNumber : List CutMessage → CutMessage → Type 0
+abbrev IsOfNumber : (ms : List CutMessage) (message : CutMessage) → Type 0
 IsOfNumber ms m = header_of_number ms m.number ≡ Some m.header
 
 later : (k n : ℕ) (ms : List CutMessage) → n < k → NumberedFrom k ms → Each (λ m. n < m.number) ms
 later k n [] h from = tt
 later k n (m ∷ ms) h from = search (arith, later (suc k) n ms (omega (arith, h)) from.1)
 
-behind : (first : CutMessage) (ms some : List CutMessage) → Each (λ m. first.number < m.number)
-    some →
+found_after_first : (first : CutMessage) (ms some : List CutMessage) →
+    Each (λ m. first.number < m.number) some →
     Each (IsOfNumber ms) some
     → Each (IsOfNumber (first ∷ ms)) some
 unfolding header_of_number
-behind first ms [] above h = tt
-behind first ms (m ∷ some) above h = search (arith, ne_eqb, behind first ms some above.1 h.1)
+found_after_first first ms [] above h = tt
+found_after_first first ms (m ∷ some) above h =
+    search (arith, ne_eqb, found_after_first first ms some above.1 h.1)
 
 each_of_number : (k : ℕ) (ms : List CutMessage) → NumberedFrom k ms → Each (IsOfNumber ms) ms
 unfolding header_of_number
 each_of_number k [] from = tt
 each_of_number k (m ∷ ms) from = (
   rw (eq-eqb m.number m.number refl) refl,
-  behind m ms ms (later (suc k) m.number ms (omega (arith, from.0)) from.1)
+  found_after_first m ms ms (later (suc k) m.number ms (omega (arith, from.0)) from.1)
       (each_of_number (suc k) ms from.1),
 )
 

@@ -13,7 +13,7 @@ use Rattle.giop_stream.specs.Framing.{Cut, with_first, cut_from, limit, stop_or_
 use Rattle.giop_stream.proofs.Cuts.CutFrom.{cut_wrong, cut_short, cut_open, cut_more}
 
 -- the header of the current message consists of octets, and none of them is wrong
-abbrev pub HeaderOctets : Cut → Type 0
+abbrev pub HeaderOctets : (cut_stream : Cut) → Type 0
 HeaderOctets c = IfSome c.current (λ m. AreOctets m.header × (first_wrong_octet m.header ≡ None))
 
 from_by : (fuel number before : ℕ) (xs : List ℕ) → AreOctets xs

@@ -3,11 +3,11 @@ use Rattle.std.proofs.Common.{◌≡◌, ℕ, List, [], ◌∷◌, ◌++◌, len
 use Rattle.std.proofs.lemmas.List.{append-nil, length_push}
 use Rattle.giop_checkpoint.specs.declared.fault.StreamFault.{StreamFault}
 use Rattle.giop_stream.specs.Rules.{Rules}
-use Rattle.giop_stream.specs.Framing.{Cut, cut, messages, read_of}
+use Rattle.giop_stream.specs.Framing.{Cut, cut, messages, octets_read}
 use Rattle.giop_stream.specs.Events.{events_from, events}
 use Rattle.giop_stream.specs.Lines.{lines}
-use Rattle.giop_stream.specs.Stream.{text, tally}
-use Rattle.giop_stream.proofs.Cuts.Cutting.{next, parts_by, cut_grows, next_stopped}
+use Rattle.giop_stream.specs.Stream.{text, totals_so_far}
+use Rattle.giop_stream.proofs.Cuts.Cutting.{next_cut, parts_by, cut_grows, next_stopped}
 use Rattle.giop_stream.proofs.Events.AfterMoreEvents.{message_lines_same, lines_stopped}
 use Rattle.giop_stream.proofs.Cuts.OpenMessages.{early_events}
 
@@ -15,7 +15,7 @@ pub cut_stays : (p : List ℕ) (x : ℕ) (found : ℕ × StreamFault) → (cut p
     cut (p ++ x ∷ []) ≡ cut p
 cut_stays p x found h =
     let parts = parts_by (cut p) (cut p).current (Some found) refl h in
-    cut_grows p x ∙ (ap (next (length p) x) parts
+    cut_grows p x ∙ (ap (next_cut (length p) x) parts
     ∙ (next_stopped (cut p).whole (cut p).current (cut p).held found (length p) x ∙ sym parts))
 
 one_stays : (R : Rules) (p : List ℕ) (x : ℕ) (found : ℕ × StreamFault) →
@@ -49,6 +49,6 @@ unfolding text
 text_stays R p q found h = search (arith, lines_stay)
 
 pub tally_stays : (R : Rules) (p q : List ℕ) (found : ℕ × StreamFault) →
-    (cut p).stop ≡ Some found → tally R (p ++ q) ≡ tally R p
-unfolding tally read_of
+    (cut p).stop ≡ Some found → totals_so_far R (p ++ q) ≡ totals_so_far R p
+unfolding totals_so_far octets_read
 tally_stays R p q found h = search (arith, lines_stay, stop_stays)

@@ -8,12 +8,12 @@ use Rattle.std.proofs.lemmas.List.Elements.{filter-append}
 use Rattle.giop_checkpoint.specs.declared.fault.StreamFault.{StreamFault}
 use Rattle.giop_stream.specs.Rules.{Rules}
 use Rattle.giop_stream.specs.Framing.{cut}
-use Rattle.giop_message.specs.MessageReader.{MessageReader, IsCausal, IsPhased}
-use Rattle.giop_stream.specs.Events.{Event, opened, events, open_after}
-use Rattle.giop_stream.specs.Lines.{Kept, StreamLine, kept_of, is_last_of, lines_of_events, by_class, in_order, lines_of_messages, stop_line, lines}
+use Rattle.giop_message.specs.MessageReader.{MessageReader, KeepsEarlierLines, UsesPhaseBeforeEnd}
+use Rattle.giop_stream.specs.Events.{Event, open_after_events, events, open_after}
+use Rattle.giop_stream.specs.Lines.{Kept, StreamLine, kept_of, is_last_line_of, lines_of_events, by_class, in_order, lines_of_messages, stop_line, lines}
 use Rattle.giop_stream.specs.Stream.{fault_count, is_over}
 use Rattle.giop_stream.specs.OpenSlots.{known_of}
-use Rattle.giop_stream.specs.Effects.{kept_after}
+use Rattle.giop_stream.specs.Effects.{kept_unless_ended}
 use Rattle.giop_stream.proofs.StreamLines.EventsTogether.{kept_through, sorted_lines}
 use Rattle.giop_stream.proofs.Lists.{any_append}
 use Rattle.giop_stream.proofs.Events.KeptEvents.{opened_append}
@@ -24,7 +24,7 @@ line_places : (R : MessageReader) (es : List Event) (n : ℕ) →
     Each (λ e. e.place ≤ n) es → Each (λ l. l.place ≤ n) (lines_of_events R es [] es)
 line_places R es n h = lines_of_events_each R (λ k. k ≤ n) es [] es h
 
-pub message_lines_grow : (R : Rules) → IsCausal R.reading → IsPhased R.reading →
+pub message_lines_grow : (R : Rules) → KeepsEarlierLines R.reading → UsesPhaseBeforeEnd R.reading →
     (p p' : List ℕ) (es : List Event) → length p' ≡ suc (length p)
     → events R p' ≡ events R p ++ es → Each (λ e. e.place ≤ length p) (events R p) →
     Each (λ e. e.place ≡ suc (length p)) es
@@ -70,11 +70,11 @@ over_by false false k = refl
 pub known_grow : (R : Rules) (p p' : List ℕ) (es : List Event) (ls : List StreamLine) →
     events R p' ≡ events R p ++ es
     → lines_of_messages R p' ≡ lines_of_messages R p ++ ls → (i : ℕ) →
-    known_of R p' i ≡ kept_after (kept_through (known_of R p) es) ls i
-unfolding known_of is_over kept_after keeping
+    known_of R p' i ≡ kept_unless_ended (kept_through (known_of R p) es) ls i
+unfolding known_of is_over kept_unless_ended keeping
 known_grow R p p' es ls ev sd i =
     rw (ev, sd, keeping_through (is_over R p) (events R p) es i, any_append)
-    (over_by (is_over R p i) (list_any (is_last_of i) ls) (kept_of i (events R p ++ es)))
+    (over_by (is_over R p i) (list_any (is_last_line_of i) ls) (kept_of i (events R p ++ es)))
 
 pub known_idle : (R : Rules) (p p' : List ℕ) → events R p' ≡ events R p →
     lines_of_messages R p' ≡ lines_of_messages R p → (i : ℕ) → known_of R p' i ≡ known_of R p i
@@ -82,7 +82,7 @@ unfolding known_of is_over
 known_idle R p p' ev sd i = rw (ev, sd) refl
 
 pub open_grows : (R : Rules) (p p' : List ℕ) (es : List Event) → events R p' ≡ events R p
-    ++ es → open_after R p' ≡ opened (open_after R p) es
+    ++ es → open_after R p' ≡ open_after_events (open_after R p) es
 unfolding open_after
 open_grows R p p' es ev = search (arith, opened_append)
 

@@ -4,14 +4,14 @@ use Rattle.std.proofs.Common.{arith, ℕ, Bool, true, false, List, [], ◌++◌,
 use Rattle.std.specs.Prelude.{◌==◌, if◌then◌else◌}
 use Rattle.giop_stream.specs.declared.fault.FramingFault.{FramingFault}
 use Rattle.giop_message.specs.Headers.{size}
-use Rattle.giop_stream.specs.Kinds.{is_old, named_at}
-use Rattle.giop_stream.specs.Events.{EventKind, Begins, Takes, Opens, Continues, Seams, Faults, Event, Open, Before, Now, own, event_of_open, header_events, refusal, opens_unless, opens, order_fault, seams, unopened, continues, is_id, pending, cancel_of, cancels, naming_events, message_end_events}
+use Rattle.giop_stream.specs.Kinds.{is_fragmented_1_1, lookup_offset}
+use Rattle.giop_stream.specs.Events.{EventKind, Begins, Takes, Opens, Continues, Seams, Faults, Event, Open, OpenState, MessageOctet, own_event, event_of_open, header_events, opening_fault, open_events_unless, opening_events, order_fault_events, seam_events, no_open_fault, fragment_events, is_same_id, open_message_1_1, cancel_event, cancel_request_events, naming_events, message_end_events}
 
 -- the events that may come after those of an octet's first part
-abbrev pub IsLater : EventKind → Type 0
-IsLater Begins = ⊥
-IsLater (Takes x) = ⊥
-IsLater _ = Unit {0}
+abbrev pub IsNeitherBeginNorTake : (event_kind : EventKind) → Type 0
+IsNeitherBeginNorTake Begins = ⊥
+IsNeitherBeginNorTake (Takes x) = ⊥
+IsNeitherBeginNorTake _ = Unit {0}
 
 -- Q holds of no events, and of two lists that are joined
 pub record IsJoined (Q : List Event → Type 0) : Type 0 where
@@ -23,52 +23,59 @@ pub either : (Q : List Event → Type 0) (b : Bool) (es more : List Event) → Q
 either Q true es more h k = h
 either Q false es more h k = k
 
-pub of_header : (Q : List Event → Type 0) → IsJoined Q → (now : Now) → Q (own now Begins)
-    → ((fault : FramingFault) → Q (own now (Faults fault))) → Q (header_events now)
+pub of_header : (Q : List Event → Type 0) → IsJoined Q → (now : MessageOctet) →
+    Q (own_event now Begins)
+    → ((fault : FramingFault) → Q (own_event now (Faults fault))) → Q (header_events now)
 unfolding header_events
 of_header Q j now begins h = search (arith)
 
 -- Q holds of each later event of the message itself, of the open message under its key, and of the
 -- one that Fragments of 1.1 continue.
-pub record HoldsOf (Q : List Event → Type 0) (b : Before) (now : Now) (other : Option Open) :
+pub record HoldsOf (Q : List Event → Type 0) (before : OpenState) (now : MessageOctet)
+    (other : Option Open) :
     Type 0 where
-  pub mine : (what : EventKind) → IsLater what → Q (own now what)
-  pub theirs : (what : EventKind) → IsLater what → Q (event_of_open now other what)
-  pub waiting : (what : EventKind) → IsLater what → Q (event_of_open now (pending b) what)
+  pub mine : (what : EventKind) → IsNeitherBeginNorTake what → Q (own_event now what)
+  pub theirs : (what : EventKind) → IsNeitherBeginNorTake what → Q (event_of_open now other what)
+  pub waiting : (what : EventKind) → IsNeitherBeginNorTake what →
+      Q (event_of_open now (open_message_1_1 before) what)
 
-module _ (most : ℕ) (Q : List Event → Type 0) (j : IsJoined Q) (b : Before) (now : Now) where
+module _ (most : ℕ) (Q : List Event → Type 0) (j : IsJoined Q) (b : OpenState)
+    (now : MessageOctet) where
   of_opening : (key : Option ℕ) (other : Option Open) → HoldsOf Q b now other →
-      (fault : Option FramingFault) → Q (opens_unless now key fault)
+      (fault : Option FramingFault) → Q (open_events_unless now key fault)
   of_opening key other h None = h.mine (Opens key) tt
   of_opening key other h (Some fault) = h.mine (Faults fault) tt
 
   of_opens : (key : Option ℕ) (other : Option Open) → HoldsOf Q b now other →
-      Q (opens most b now key other)
-  of_opens key other h = of_opening key other h (refusal most b key other)
+      Q (opening_events most b now key other)
+  of_opens key other h = of_opening key other h (opening_fault most b key other)
 
   of_continues : (key : Option ℕ) (other : Option Open) → HoldsOf Q b now other →
-      Q (continues b now key other)
-  of_continues key None h = h.mine (Faults (unopened b key)) tt
+      Q (fragment_events b now key other)
+  of_continues key None h = h.mine (Faults (no_open_fault b key)) tt
   of_continues key (Some o) h =
-      j.both (own now (Continues o.opener.number)) (seams now o ++ order_fault now o)
+      j.both (own_event now (Continues o.opener.number)) (seam_events now o
+      ++ order_fault_events now o)
       (h.mine (Continues o.opener.number) tt)
-      (j.both (seams now o) (order_fault now o)
-      (either Q (is_old now.subject.header) _ _ (h.theirs Seams tt) j.none)
+      (j.both (seam_events now o) (order_fault_events now o)
+      (either Q (is_fragmented_1_1 now.subject.header) _ _ (h.theirs Seams tt) j.none)
       (search (arith, either)))
 
   of_cancel : (o : Option Open)
-      → ((what : EventKind) → IsLater what → Q (event_of_open now o what)) → Q (cancel_of now o)
+      → ((what : EventKind) → IsNeitherBeginNorTake what → Q (event_of_open now o what)) →
+      Q (cancel_event now o)
   of_cancel None h = j.none
   of_cancel (Some o) h = search (arith, either)
 
-  of_pending : (test : Bool) → ((what : EventKind) → IsLater what →
-      Q (event_of_open now (pending b) what)) → Q (cancel_of now (if test then pending b else None))
-  of_pending true h = of_cancel (pending b) h
+  of_pending : (test : Bool) → ((what : EventKind) → IsNeitherBeginNorTake what →
+      Q (event_of_open now (open_message_1_1 b) what)) →
+      Q (cancel_event now (if test then open_message_1_1 b else None))
+  of_pending true h = of_cancel (open_message_1_1 b) h
   of_pending false h = j.none
 
   of_cancels : (key : Option ℕ) (other : Option Open) → HoldsOf Q b now other →
-      Q (cancels b now key other)
-  of_cancels key None h = of_pending (is_id key b.asked) h.waiting
+      Q (cancel_request_events b now key other)
+  of_cancels key None h = of_pending (is_same_id key b.asked) h.waiting
   of_cancels key (Some o) h = of_cancel (Some o) h.theirs
 
   pub of_name : (key : Option ℕ) (other : Option Open) → HoldsOf Q b now other →
@@ -81,7 +88,7 @@ module _ (most : ℕ) (Q : List Event → Type 0) (j : IsJoined Q) (b : Before) 
   of_end other h = search (arith, either)
 
   pub of_later : (key : Option ℕ) (other : Option Open) → HoldsOf Q b now other
-      → Q ((if now.payload_count == named_at now.subject.header
+      → Q ((if now.payload_count == lookup_offset now.subject.header
       then naming_events most b now key other else [])
       ++ (if now.payload_count == size now.subject.header then message_end_events now other else
       []))

@@ -5,13 +5,13 @@ use Rattle.std.specs.Prelude.{◌||◌, nat_lt, if◌then◌else◌, flat_map}
 use Rattle.std.specs.List.{AllByRecursion as Each}
 use Rattle.std.proofs.lemmas.Bool.{cases_lt, cases_eq, eq-eqb}
 use Rattle.giop_checkpoint.specs.declared.fault.StreamFault.{StreamFault}
-use Rattle.giop_message.specs.MessageReader.{LineClass, Value, Call, Rest, Fault, End, MessageReader, IsCausal, IsStreamable}
+use Rattle.giop_message.specs.MessageReader.{LineClass, Value, Call, Rest, Fault, End, MessageReader, KeepsEarlierLines, IsStreamable}
 use Rattle.giop_stream.specs.HeaderOctets.{fronts, first_wrong_octet}
 use Rattle.giop_stream.specs.Rules.{Rules}
 use Rattle.giop_stream.specs.Framing.{CutMessage, with_payload, Cut, with_first, cut_from, limit, stop_or_limit, limited, cut, messages}
-use Rattle.giop_stream.specs.Events.{EventKind, Begins, Takes, Opens, Continues, Seams, Cancelled, Faults, Closes, Event, Open, Before, events_of_octet, events_of, opened, before_by, events_from, events}
-use Rattle.giop_stream.specs.Lines.{Kept, Content, Said, StreamLine, line, lines_of_event, lines_of_events, by_class, in_order, ends, is_last_of, up_to_last_line, lines_of_messages, stop_line, lines}
-use Rattle.giop_stream.specs.Stream.{is_fault, fault_count, is_inside, is_truncated, tally, final}
+use Rattle.giop_stream.specs.Events.{EventKind, Begins, Takes, Opens, Continues, Seams, Cancelled, Faults, Closes, Event, Open, OpenState, events_of_octet, events_of, open_after_events, before_by, events_from, events}
+use Rattle.giop_stream.specs.Lines.{Kept, Content, Said, StreamLine, line, lines_of_event, lines_of_events, by_class, in_order, is_last_content, is_last_line_of, up_to_last_line, lines_of_messages, stop_line, lines}
+use Rattle.giop_stream.specs.Stream.{is_fault, fault_count, ends_inside, is_truncated, totals_so_far, final}
 use Rattle.giop_stream.proofs.Lists.{each_append, each_weaker, each_map, each_filter}
 use Rattle.giop_stream.proofs.Cuts.CutFrom.{cut_wrong, cut_short, cut_open, cut_more}
 use Rattle.giop_stream.proofs.Events.EventsOfOctet.{opened_append, events_of_octet_each, opened_each}
@@ -21,10 +21,10 @@ use Rattle.giop_stream.proofs.CodeSteps.EngineAlive.{sound}
 
 -- ---- The messages have the numbers from 1 to their count.
 
-abbrev IsNumber : ℕ → ℕ → Type 0
+abbrev IsNumber : (n i : ℕ) → Type 0
 IsNumber n i = (0 < i) × (i ≤ n)
 
-abbrev Numbered : ℕ → Cut → Type 0
+abbrev Numbered : (first : ℕ) (cut_stream : Cut) → Type 0
 Numbered first c = Each (λ m. (first ≤ m.number) × (m.number < first + length (messages c)))
     (messages c)
 
@@ -78,13 +78,13 @@ numbered p = go (nat_lt limit (length p))
 -- ---- The subjects of the events and the lines have such numbers too.
 
 module _ (R : Rules) (P : ℕ → Type 0) where
-  abbrev Named : List Event → Type 0
+  abbrev Named : (es : List Event) → Type 0
   Named es = Each (λ e. P e.subject.number) es
 
-  abbrev Live : List Open → Type 0
+  abbrev Live : (still_open : List Open) → Type 0
   Live still_open = Each (λ o. P o.opener.number) still_open
 
-  events_of_each : (b : Before) (m : CutMessage) → P m.number → Live b.still_open →
+  events_of_each : (b : OpenState) (m : CutMessage) → P m.number → Live b.still_open →
       Named (events_of R.most b m)
   unfolding events_of
   events_of_each b m h k = go (fronts m.payload)
@@ -97,7 +97,7 @@ module _ (R : Rules) (P : ℕ → Type 0) where
       go [] = tt
       go (front ∷ fs) = search (arith, each_append, here, go fs)
 
-  events_each : (past : List Event) (ms : List CutMessage) → Live (opened [] past) →
+  events_each : (past : List Event) (ms : List CutMessage) → Live (open_after_events [] past) →
       Each (λ m. P m.number) ms
       → Named (events_from R past ms)
   unfolding events_from before_by
@@ -105,17 +105,17 @@ module _ (R : Rules) (P : ℕ → Type 0) where
   events_each past (m ∷ ms) h k =
       let es = events_of R.most (before_by R past) m in
       let here = events_of_each (before_by R past) m k.0 h in
-      let after = opened_each (λ subject. P subject.number) (opened [] past) es h here in
+      let after = opened_each (λ subject. P subject.number) (open_after_events [] past) es h here in
       each_append (λ e. P e.subject.number) es (events_from R (past ++ es) ms) here
       (events_each (past ++ es) ms (rw (opened_append [] past es) after) k.1)
 
 -- a line of one of n messages, which is the message's last line if it is a fault
 record IsOne (n : ℕ) (l : StreamLine) : Type 0 where
   number : IsNumber n l.number
-  last : is_fault l.content ≡ true → ends l.content ≡ true
+  last : is_fault l.content ≡ true → is_last_content l.content ≡ true
 
 one_line : (n : ℕ) (e : Event) → IsNumber n e.subject.number → (content : Content)
-    → (is_fault content ≡ true → ends content ≡ true) → IsOne n (line e content)
+    → (is_fault content ≡ true → is_last_content content ≡ true) → IsOne n (line e content)
 unfolding line
 one_line n e h content last = search (arith)
 
@@ -205,13 +205,13 @@ module _ (f g : ℕ → Bool) (more : (i : ℕ) → f i ≡ true → g i ≡ tru
 
 faults_free : (n : ℕ) (over : ℕ → Bool) (ls : List StreamLine) → Each (IsOne n) ls
     → fault_count (up_to_last_line over ls) ≤ free over n
-unfolding up_to_last_line fault_count is_last_of
+unfolding up_to_last_line fault_count is_last_line_of
 faults_free n over [] h = omega arith
 faults_free n over (l ∷ ls) h = go (over l.number) (is_fault l.content) refl refl
     (λ f. faults_free n f ls h.1)
   where
     then_over : ℕ → Bool
-    then_over i = over i || is_last_of i l
+    then_over i = over i || is_last_line_of i l
 
     more : (i : ℕ) → over i ≡ true → then_over i ≡ true
     more i e = rw e refl
@@ -238,15 +238,16 @@ numbers : (p : List ℕ) → Each (λ m. IsNumber (length (messages (cut p))) m.
     (messages (cut p))
 numbers p = search (arith, each_weaker, numbered)
 
-nothing_open : (P : ℕ → Type 0) → Each (λ o. P o.opener.number) (opened [] [])
-unfolding opened
+nothing_open : (P : ℕ → Type 0) → Each (λ o. P o.opener.number) (open_after_events [] [])
+unfolding open_after_events
 nothing_open P = tt
 
 said_few : (R : Rules) (p : List ℕ) → fault_count (lines_of_messages R p) ≤ length
     (messages (cut p))
 unfolding lines_of_messages events
 said_few R p =
-    let none : Each (λ o. IsNumber (length (messages (cut p))) o.opener.number) (opened [] []) =
+    let none : Each (λ o. IsNumber (length (messages (cut p))) o.opener.number)
+    (open_after_events [] []) =
     nothing_open (IsNumber (length (messages (cut p)))) in
     let n = length (messages (cut p)) in
     let all = lines_of_events R.reading (events R p) [] (events R p) in
@@ -257,7 +258,7 @@ said_few R p =
     omega (arith, most, all_free n)
 
 -- the stream's own fault
-unfoldable pub stop_count : Option (ℕ × StreamFault) → ℕ
+unfoldable pub stop_count : (found : Option (ℕ × StreamFault)) → ℕ
 stop_count None = 0
 stop_count (Some found) = 1
 
@@ -282,18 +283,20 @@ free_stop None e = refl
 free_stop (Some found) e = absurd cc
 
 one_end : (stop : Option (ℕ × StreamFault)) (current : Option CutMessage) (held : List ℕ)
-    → stop_count stop + (if is_inside current held stop then 1 else 0) ≤ 1
-unfolding stop_count is_inside
+    → stop_count stop + (if ends_inside current held stop then 1 else 0) ≤ 1
+unfolding stop_count ends_inside
 one_end (Some found) current held = omega arith
 one_end None current held = search (arith)
 
-module _ (R : Rules) (causal : IsCausal R.reading) (laws : IsStreamable R.reading) (p : List ℕ)
+module _ (R : Rules) (causal : KeepsEarlierLines R.reading) (laws : IsStreamable R.reading)
+    (p : List ℕ)
   where
-    pub tally_faults : (tally R p).faults ≤ (tally R p).messages + stop_count (cut p).stop
-    unfolding tally
+    pub tally_faults : (totals_so_far R p).faults ≤ (totals_so_far R p).messages + stop_count
+        (cut p).stop
+    unfolding totals_so_far
     tally_faults = omega (arith, lines_few R p, (sound R causal laws p).starts)
 
-    pub faults_few : (cut p).stop ≡ None → (tally R p).faults ≤ (tally R p).messages
+    pub faults_few : (cut p).stop ≡ None → (totals_so_far R p).faults ≤ (totals_so_far R p).messages
     faults_few free = search (arith, tally_faults, free_stop)
 
     pub all_faults : (final R p).faults ≤ suc (final R p).messages

@@ -5,21 +5,23 @@ use Rattle.std.specs.List.{find, list_any, AllByRecursion as Each}
 use Rattle.std.proofs.lemmas.Bool.{ne_eqb}
 use Rattle.std.proofs.lemmas.List.{append-nil}
 use Rattle.giop_stream.specs.Rules.{Rules}
-use Rattle.giop_stream.specs.Events.{Event, Open, joined, phase_of, mixes, changed, opened, has_ended, asked_of, before_by}
+use Rattle.giop_stream.specs.Events.{Event, Open, joined_octets, phase_of, ends_joining, open_after_event, open_after_events, has_ended, pending_id, before_by}
 use Rattle.giop_stream.specs.Lines.{Kept, kept_of}
 use Rattle.giop_stream.proofs.Lists.{any_append}
 use Rattle.giop_stream.proofs.StreamLines.LinesOfOctet.{kept_other}
 use Rattle.giop_stream.proofs.StreamLines.Ended.{ended_append}
 
 pub opened_append : (still_open : List Open) (es more : List Event) →
-    opened still_open (es ++ more) ≡ opened (opened still_open es) more
-unfolding opened
+    open_after_events still_open (es ++ more) ≡ open_after_events
+    (open_after_events still_open es) more
+unfolding open_after_events
 opened_append still_open [] more = refl
-opened_append still_open (e ∷ es) more = opened_append (changed still_open e.subject e.what) es more
+opened_append still_open (e ∷ es) more = opened_append (open_after_event still_open e.subject
+    e.what) es more
 
 -- ---- Events of other messages.
 
-abbrev pub OfOthers : ℕ → List Event → Type 0
+abbrev pub OfOthers : (i : ℕ) (es : List Event) → Type 0
 OfOthers i es = Each (λ e. e.subject.number ≡ i → ⊥) es
 
 pub others_kept : (i : ℕ) (past es : List Event) → OfOthers i es →
@@ -50,11 +52,11 @@ others_ended R i past es h = ended_append R i past es
 -- ---- What stands before the next octet.
 
 pub asked_same : (R : Rules) (past es : List Event) (w : Option Open) →
-    IfSome w (λ o. OfOthers o.opener.number es) → asked_of R (past ++ es) w ≡ asked_of R past w
+    IfSome w (λ o. OfOthers o.opener.number es) → pending_id R (past ++ es) w ≡ pending_id R past w
 asked_same R past es None h = refl
 asked_same R past es (Some o) h =
     let kept = others_kept o.opener.number past es h in
-    let octets : joined o.opener.number (past ++ es) ≡ joined o.opener.number past =
+    let octets : joined_octets o.opener.number (past ++ es) ≡ joined_octets o.opener.number past =
     ap (λ (k : Kept). k.octets) kept in
     let phase : phase_of o.opener.number (past ++ es) ≡ phase_of o.opener.number past =
     ap (λ (k : Kept). k.phase) kept in
@@ -72,26 +74,28 @@ found_each Q test (o ∷ still_open) h =
     found_if Q (test o) o (find test still_open) h.0 (found_each Q test still_open h.1)
 
 -- these events refuse no message of 1.1 that Fragments may follow
-pub mixed_same : (R : Rules) (past es : List Event) → list_any mixes es ≡ false →
+pub mixed_same : (R : Rules) (past es : List Event) → list_any ends_joining es ≡ false →
     (before_by R (past ++ es)).mixed ≡ (before_by R past).mixed
 unfolding before_by
 mixed_same R past es unmixed =
-    rw (any_append mixes past es, unmixed, or_false (list_any mixes past)) refl
+    rw (any_append ends_joining past es, unmixed, or_false (list_any ends_joining past)) refl
 
 -- these events open, close and refuse no message, and none of them is of an open message
 pub before_same : (R : Rules) (past es : List Event) →
-    opened (opened [] past) es ≡ opened [] past → list_any mixes es ≡ false →
-    Each (λ o. OfOthers o.opener.number es) (opened [] past) →
+    open_after_events (open_after_events [] past) es ≡ open_after_events [] past →
+    list_any ends_joining es ≡ false →
+    Each (λ o. OfOthers o.opener.number es) (open_after_events [] past) →
     before_by R (past ++ es) ≡ before_by R past
 unfolding before_by
 before_same R past es same unmixed others =
     rw (
       opened_append [] past es,
       same,
-      any_append mixes past es,
+      any_append ends_joining past es,
       unmixed,
-      or_false (list_any mixes past),
-      asked_same R past es (find (λ o. is_none o.key) (opened [] past))
-          (found_each (λ o. OfOthers o.opener.number es) (λ o. is_none o.key) (opened [] past)
+      or_false (list_any ends_joining past),
+      asked_same R past es (find (λ o. is_none o.key) (open_after_events [] past))
+          (found_each (λ o. OfOthers o.opener.number es) (λ o. is_none o.key)
+          (open_after_events [] past)
           others),
     ) refl

@@ -5,46 +5,46 @@ use Rattle.std.specs.Prelude.{IfSome}
 use Rattle.std.specs.List.{list_any, AllByRecursion as Each}
 use Rattle.std.proofs.lemmas.Bool.{ltb-true, ne_eqb}
 use Rattle.giop_message.specs.Headers.{size}
-use Rattle.giop_stream.specs.Kinds.{named_at}
+use Rattle.giop_stream.specs.Kinds.{lookup_offset}
 use Rattle.std.proofs.lemmas.List.{length_push}
 use Rattle.giop_stream.specs.Rules.{Rules}
 use Rattle.giop_stream.specs.Framing.{CutMessage, with_payload, Cut, cut, messages}
-use Rattle.giop_message.specs.MessageReader.{MessageReader, IsCausal, IsStreamable}
-use Rattle.giop_stream.specs.Events.{EventKind, Event, Open, Before, place, events_of_octet, events_of, opened, has_ended, before_by, events_from, events, open_after, joined, Rising}
-use Rattle.giop_stream.specs.Lines.{StreamLine, nothing_kept, is_last_of, lines}
+use Rattle.giop_message.specs.MessageReader.{MessageReader, KeepsEarlierLines, IsStreamable}
+use Rattle.giop_stream.specs.Events.{EventKind, Event, Open, OpenState, place, events_of_octet, events_of, open_after_events, has_ended, before_by, events_from, events, open_after, joined_octets, NumbersRise}
+use Rattle.giop_stream.specs.Lines.{StreamLine, nothing_kept, is_last_line_of, lines}
 use Rattle.giop_stream.specs.Stream.{start_count, is_over}
 use Rattle.giop_stream.specs.OpenSlots.{KeptByNumber, known_of}
-use Rattle.giop_stream.specs.Effects.{kept_with, kept_after}
+use Rattle.giop_stream.specs.Effects.{kept_with, kept_unless_ended}
 use Rattle.giop_stream.proofs.StreamLines.EventsTogether.{kept_through, sorted_lines}
 use Rattle.giop_stream.proofs.Lists.{each_append, each_weaker, all_by}
 use Rattle.giop_stream.proofs.Cuts.Cutting.{settle_stop, settled_messages}
-use Rattle.giop_stream.proofs.Cuts.CutFrom.{end_message}
+use Rattle.giop_stream.proofs.Cuts.CutFrom.{cut_with_last_message}
 use Rattle.giop_stream.proofs.Events.KeptEvents.{OfOthers}
 use Rattle.giop_stream.proofs.StreamLines.Ended.{over_grows}
 use Rattle.giop_stream.proofs.Events.EventsOfOctet.{opened_append, payload_run, events_from_push, events_of_push, events_of_none, events_of_octet_same, events_of_octet_each, opened_each, quiet_one}
-use Rattle.giop_stream.proofs.Events.EventsKeep.{Below, rising_events, IsFew, few_events, Differ, differ_events, AreOpeners, openers_events}
+use Rattle.giop_stream.proofs.Events.EventsKeep.{NumbersAreBelow, rising_events, IsWithinLimit, few_events, KeysDiffer, differ_events, AreOpeners, openers_events}
 use Rattle.giop_stream.proofs.StreamLines.LinesOfOctet.{joined_append, written_each, none_last}
 use Rattle.giop_stream.proofs.StreamLines.StartLines.{start_append}
 use Rattle.giop_stream.proofs.Events.AfterMoreEvents.{message_lines_grow, known_grow, open_grows, lines_free}
 
 -- ---- The invariants.
-pub record CurrentFits (n : ℕ) (c : Cut) (m : CutMessage) : Type 0 where
+pub record CurrentFitsStream (n : ℕ) (cut_stream : Cut) (m : CutMessage) : Type 0 where
   pub place_is : place m ≡ n
   pub lacks : length m.payload < size m.header
-  pub number_is : m.number ≡ suc (length c.whole)
-  pub none_held : c.held ≡ []
+  pub number_is : m.number ≡ suc (length cut_stream.whole)
+  pub none_held : cut_stream.held ≡ []
   pub twelve : length m.header ≡ 12
 
-pub record Fits (n : ℕ) (c : Cut) : Type 0 where
-  pub current : IfSome c.current (CurrentFits n c)
-  pub held : length c.held ≤ n
-  pub short : length c.held < 12
+pub record CutFitsStream (n : ℕ) (cut_stream : Cut) : Type 0 where
+  pub current : IfSome cut_stream.current (CurrentFitsStream n cut_stream)
+  pub held : length cut_stream.held ≤ n
+  pub short : length cut_stream.held < 12
 
 -- the open messages: there are at most `most`, no two have the same key, and each is one
 -- that Fragments continue
 pub record AreSound (most : ℕ) (still_open : List Open) : Type 0 where
-  pub few : IsFew most still_open
-  pub differ : Differ still_open
+  pub few : IsWithinLimit most still_open
+  pub differ : KeysDiffer still_open
   pub openers : AreOpeners still_open
 
 pub record IsSound (R : Rules) (p : List ℕ) : Type 0 where
@@ -52,42 +52,44 @@ pub record IsSound (R : Rules) (p : List ℕ) : Type 0 where
   pub numbers : Each (λ o. o.opener.number ≤ length (messages (cut p))) (open_after R p)
   pub unknown : (i : ℕ) → length (messages (cut p)) < i → known_of R p i ≡ Some nothing_kept
   pub starts : start_count (lines R p) ≡ length (messages (cut p))
-  pub fits : (cut p).stop ≡ None → Fits (length p) (cut p)
-  pub rising : Rising (open_after R p)
+  pub fits : (cut p).stop ≡ None → CutFitsStream (length p) (cut p)
+  pub rising : NumbersRise (open_after R p)
   pub early : (cut p).stop ≡ None → IfSome (cut p).current
-      (λ m. length m.payload < named_at m.header → Below m.number (open_after R p))
+      (λ m. length m.payload < lookup_offset m.header → NumbersAreBelow m.number (open_after R p))
   pub still_open : AreSound R.most (open_after R p)
   pub begun : (cut p).stop ≡ None → IfSome (cut p).current
-      (λ m. length m.payload ≤ named_at m.header →
-      joined m.number (events R p) ≡ m.payload)
+      (λ m. length m.payload ≤ lookup_offset m.header →
+      joined_octets m.number (events R p) ≡ m.payload)
   pub over : (i : ℕ) → is_over R p i ≡ has_ended R i [] (events R p)
 
 pub settled_fits : (n : ℕ) (whole : List CutMessage) (m : CutMessage) → place m ≡ n →
-    m.number ≡ suc (length whole) → length m.header ≡ 12 → Fits n (end_message whole m)
-unfolding end_message
+    m.number ≡ suc (length whole) → length m.header ≡ 12 →
+    CutFitsStream n (cut_with_last_message whole m)
+unfolding cut_with_last_message
 settled_fits n whole m h k t = search (arith, ltb-true)
 
 pub settled_length : (whole : List CutMessage) (m : CutMessage) →
-    length (messages (end_message whole m)) ≡ suc (length whole)
+    length (messages (cut_with_last_message whole m)) ≡ suc (length whole)
 settled_length whole m = search (arith, settled_messages, length_push)
 
-pub settled_early : (most : ℕ) (whole : List CutMessage) (m : CutMessage) (b : Before) →
-    (length m.payload ≤ named_at m.header → Below m.number b.still_open)
-    → IfSome (end_message whole m).current
-    (λ m. length m.payload < named_at m.header → Below m.number
-    (opened b.still_open (events_of_octet most b m)))
-unfolding end_message
+pub settled_early : (most : ℕ) (whole : List CutMessage) (m : CutMessage) (b : OpenState) →
+    (length m.payload ≤ lookup_offset m.header → NumbersAreBelow m.number b.still_open)
+    → IfSome (cut_with_last_message whole m).current
+    (λ m. length m.payload < lookup_offset m.header → NumbersAreBelow m.number
+    (open_after_events b.still_open (events_of_octet most b m)))
+unfolding cut_with_last_message
 settled_early most whole m b h = search (arith, quiet_one, ltb-true)
 
 pub settled_current : (whole : List CutMessage) (m : CutMessage) (P Q : CutMessage → Type 0) →
     (P m → Q m)
-    → IfSome (end_message whole m).current P → IfSome (end_message whole m).current Q
-unfolding end_message
+    → IfSome (cut_with_last_message whole m).current P →
+    IfSome (cut_with_last_message whole m).current Q
+unfolding cut_with_last_message
 settled_current whole m P Q h = search (arith)
 
 pub settled_if : (whole : List CutMessage) (m : CutMessage) (Q : CutMessage → Type 0) → Q m →
-    IfSome (end_message whole m).current Q
-unfolding end_message
+    IfSome (cut_with_last_message whole m).current Q
+unfolding cut_with_last_message
 settled_if whole m Q h = search (arith)
 
 through_others : (known : KeptByNumber) (es : List Event) (i : ℕ) → OfOthers i es →
@@ -99,29 +101,29 @@ through_others known (e ∷ es) i h =
 
 still_unknown : (known : KeptByNumber) (es : List Event) (ls : List StreamLine) (i : ℕ) →
     known i ≡ Some nothing_kept → OfOthers i es
-    → list_any (is_last_of i) ls ≡ false →
-    kept_after (kept_through known es) ls i ≡ Some nothing_kept
-unfolding kept_after
+    → list_any (is_last_line_of i) ls ≡ false →
+    kept_unless_ended (kept_through known es) ls i ≡ Some nothing_kept
+unfolding kept_unless_ended
 still_unknown known es ls i h k j = rw (through_others known es i k, h, j) refl
 
-pub dealt_sound : (R : Rules) → IsCausal R.reading → IsStreamable R.reading →
+pub dealt_sound : (R : Rules) → KeepsEarlierLines R.reading → IsStreamable R.reading →
     (p p' : List ℕ) (whole : List CutMessage) (m : CutMessage)
-    → length p' ≡ suc (length p) → cut p' ≡ end_message whole m → events R p' ≡ events R p
+    → length p' ≡ suc (length p) → cut p' ≡ cut_with_last_message whole m → events R p' ≡ events R p
     ++ events_of_octet R.most (before_by R (events R p)) m
     → place m ≡ suc (length p) → m.number ≡ suc (length whole) → length m.header ≡ 12 →
     (cut p).stop ≡ None
     → length (messages (cut p)) ≤ suc (length whole) →
-    (length m.payload ≤ named_at m.header → Below m.number (open_after R p))
+    (length m.payload ≤ lookup_offset m.header → NumbersAreBelow m.number (open_after R p))
     → length (messages (cut p)) + start_count
     (sorted_lines R.reading (known_of R p) (events_of_octet R.most (before_by R (events R p)) m))
     ≡ suc (length whole)
-    → (length m.payload ≤ named_at m.header → joined m.number (events R p)
-    ++ joined m.number (events_of_octet R.most (before_by R (events R p)) m) ≡ m.payload)
+    → (length m.payload ≤ lookup_offset m.header → joined_octets m.number (events R p)
+    ++ joined_octets m.number (events_of_octet R.most (before_by R (events R p)) m) ≡ m.payload)
     → IsSound R p → IsSound R p'
 unfolding before_by open_after
 dealt_sound R causal laws p p' whole m len ec ev pl nm twelve st more low starts grows sound =
     let b = before_by R (events R p) in
-    let still_open = opened [] (events R p) in
+    let still_open = open_after_events [] (events R p) in
     let K = known_of R p in
     let es = events_of_octet R.most b m in
     let ls = sorted_lines R.reading K es in
@@ -169,11 +171,11 @@ dealt_sound R causal laws p p' whole m len ec ev pl nm twelve st more low starts
           (rising_events R.most b m sound.rising (λ named. low (omega arith)));
       early = λ st.
           let grows = open_grows R p p' es ev in
-          rw ec (settled_current whole m (λ m. length m.payload < named_at m.header →
-          Below m.number (opened still_open (events_of_octet R.most b m)))
-          (λ m. length m.payload < named_at m.header →
-          Below m.number (open_after R p'))
-          (λ k short. subst (Below m.number) (sym grows) (k short))
+          rw ec (settled_current whole m (λ m. length m.payload < lookup_offset m.header →
+          NumbersAreBelow m.number (open_after_events still_open (events_of_octet R.most b m)))
+          (λ m. length m.payload < lookup_offset m.header →
+          NumbersAreBelow m.number (open_after R p'))
+          (λ k short. subst (NumbersAreBelow m.number) (sym grows) (k short))
           (settled_early R.most whole m b low));
       still_open = rw opens (record {
         few = few_events R.most b m sound.still_open.few;
@@ -181,8 +183,8 @@ dealt_sound R causal laws p p' whole m len ec ev pl nm twelve st more low starts
         openers = openers_events R.most b m sound.still_open.openers;
       });
       begun = λ st. rw (ec, ev) (settled_if whole m
-          (λ m. length m.payload ≤ named_at m.header →
-          joined m.number (events R p ++ es) ≡ m.payload)
+          (λ m. length m.payload ≤ lookup_offset m.header →
+          joined_octets m.number (events R p ++ es) ≡ m.payload)
           (λ short. joined_append m.number (events R p) es ∙ grows short));
       over = λ i. over_grows R laws p p' es i ev sd (sound.over i);
     }
@@ -195,8 +197,8 @@ dealt_sound R causal laws p p' whole m len ec ev pl nm twelve st more low starts
 -- The events and the open messages after a message has one more octet.
 pub events_on : (R : Rules) (whole : List CutMessage) (m : CutMessage) (x : ℕ) →
     length m.payload < size m.header →
-    (length m.payload < named_at m.header →
-    Below m.number (opened [] (events_from R [] (whole ++ m ∷ []))))
+    (length m.payload < lookup_offset m.header →
+    NumbersAreBelow m.number (open_after_events [] (events_from R [] (whole ++ m ∷ []))))
     → (let es = events_from R [] (whole ++ m ∷ []) in let m' =
     with_payload m (m.payload ++ x ∷ []) in events_from R []
     (whole ++ m' ∷ []) ≡ es ++ events_of_octet R.most (before_by R es) m')
@@ -207,9 +209,10 @@ events_on R whole m x few low =
     let next = with_payload m (m.payload ++ x ∷ []) in
     let so_far : events_from R [] (whole ++ m ∷ []) ≡ past ++ one =
     events_from_push R [] whole m in
-    let first : length m.payload < named_at m.header → Below m.number (opened [] past) =
-    λ short. subst (Below m.number) (opened_append [] past one
-    ∙ payload_run R.most (opened [] past) b m m.payload few (inl short))
+    let first : length m.payload < lookup_offset m.header →
+    NumbersAreBelow m.number (open_after_events [] past) =
+    λ short. subst (NumbersAreBelow m.number) (opened_append [] past one
+    ∙ payload_run R.most (open_after_events [] past) b m m.payload few (inl short))
     (rw so_far at (low short)) in
     events_from_push R [] whole next
     ∙ rw (

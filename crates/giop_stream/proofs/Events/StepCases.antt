@@ -4,28 +4,28 @@ use Rattle.std.specs.Prelude.{◌==◌, IfSome}
 use Rattle.std.proofs.lemmas.Bool.{eq-eqb, cases_eq}
 use Rattle.std.proofs.lemmas.List.{length_push}
 use Rattle.giop_checkpoint.specs.declared.fault.StreamFault.{StreamFault}
-use Rattle.giop_stream.specs.Kinds.{named_at}
+use Rattle.giop_stream.specs.Kinds.{lookup_offset}
 use Rattle.giop_stream.specs.Rules.{Rules}
 use Rattle.giop_stream.specs.Framing.{CutMessage, with_payload, Cut, cut, messages}
-use Rattle.giop_stream.specs.Events.{place, events_from, events, open_after, joined}
+use Rattle.giop_stream.specs.Events.{place, events_from, events, open_after, joined_octets}
 use Rattle.giop_stream.specs.Lines.{Kept, nothing_kept, kept_of, lines_of_messages, stop_line, lines}
 use Rattle.giop_stream.specs.Stream.{start_count, is_over}
 use Rattle.giop_stream.specs.OpenSlots.{known_of}
 use Rattle.giop_stream.proofs.Lists.{each_weaker}
-use Rattle.giop_stream.proofs.Events.EventsKeep.{Below}
+use Rattle.giop_stream.proofs.Events.EventsKeep.{NumbersAreBelow}
 use Rattle.giop_stream.proofs.Events.AfterMoreEvents.{known_idle, open_idle}
-use Rattle.giop_stream.proofs.Events.Soundness.{Fits, IsSound}
+use Rattle.giop_stream.proofs.Events.Soundness.{CutFitsStream, IsSound}
 
 pub quiet_sound : (R : Rules) → (p p' : List ℕ) → length p' ≡ suc (length p) →
     messages (cut p') ≡ messages (cut p)
     → events R p' ≡ events R p → lines_of_messages R p' ≡ lines_of_messages R p →
     start_count (lines R p') ≡ start_count (lines R p)
-    → ((cut p').stop ≡ None → Fits (suc (length p)) (cut p'))
+    → ((cut p').stop ≡ None → CutFitsStream (suc (length p)) (cut p'))
     → ((cut p').stop ≡ None → IfSome (cut p').current
-    (λ m. length m.payload < named_at m.header → Below m.number (open_after R p')))
+    (λ m. length m.payload < lookup_offset m.header → NumbersAreBelow m.number (open_after R p')))
     → ((cut p').stop ≡ None → IfSome (cut p').current
-    (λ m. length m.payload ≤ named_at m.header →
-    joined m.number (events R p') ≡ m.payload)) →
+    (λ m. length m.payload ≤ lookup_offset m.header →
+    joined_octets m.number (events R p') ≡ m.payload)) →
     IsSound R p → IsSound R p'
 quiet_sound R p p' len ms ev sd sc fits early begun sound = record {
   places = rw (ev, len) (each_weaker (λ e. e.place ≤ length p) (λ e. e.place ≤ suc (length p))
@@ -63,7 +63,7 @@ kept_is R p i kept h = search (arith)
 
 -- if nothing is kept of a message, the message has no joined octets
 pub none_known : (R : Rules) (p : List ℕ) (i : ℕ) → known_of R p i ≡ Some nothing_kept →
-    joined i (events R p) ≡ []
+    joined_octets i (events R p) ≡ []
 none_known R p i h = ap (λ (k : Kept). k.octets) (kept_is R p i nothing_kept h)
 
 -- the last octet of a header: the place of the message
@@ -76,7 +76,7 @@ pub not_twelve : (n : ℕ) → (n == 12) ≡ false → n ≤ 12 → n < 12
 not_twelve n h k = search (arith, cases_eq, eq-eqb)
 
 pub octets_are : (R : Rules) (p : List ℕ) (i : ℕ) (kept : Kept) → known_of R p i ≡ Some kept →
-    joined i (events R p) ≡ kept.octets
+    joined_octets i (events R p) ≡ kept.octets
 octets_are R p i kept h = ap (λ (k : Kept). k.octets) (kept_is R p i kept h)
 
 pub if_some : (P : CutMessage → Type 0) (o : Option CutMessage) (m : CutMessage) → o ≡ Some m →

@@ -7,44 +7,44 @@ use Rattle.std.proofs.lemmas.Bool.{or_left, ltb-false}
 use Rattle.std.proofs.lemmas.List.{append-nil, map-append, length_push}
 use Rattle.std.proofs.lemmas.List.Elements.{filter-append}
 use Rattle.giop_message.specs.Headers.{size}
-use Rattle.giop_stream.specs.Kinds.{has_fragments, is_any_fragment, named_at}
+use Rattle.giop_stream.specs.Kinds.{has_fragments, is_any_fragment, lookup_offset}
 use Rattle.giop_stream.specs.Rules.{Rules}
 use Rattle.giop_stream.specs.Framing.{CutMessage, with_payload, Cut, cut, messages}
-use Rattle.giop_message.specs.MessageReader.{IsCausal, IsEnding, IsStreamable}
-use Rattle.giop_stream.specs.Events.{EventKind, Event, Open, place, events_of_octet, opened, before_by, events, open_after}
-use Rattle.giop_stream.specs.Lines.{is_last_of, lines_of_messages}
+use Rattle.giop_message.specs.MessageReader.{KeepsEarlierLines, ClosesWithLastLine, IsStreamable}
+use Rattle.giop_stream.specs.Events.{EventKind, Event, Open, place, events_of_octet, open_after_events, before_by, events, open_after}
+use Rattle.giop_stream.specs.Lines.{is_last_line_of, lines_of_messages}
 use Rattle.giop_stream.specs.Stream.{is_over, first_messages}
 use Rattle.giop_stream.specs.Effects.{with_octet}
-use Rattle.giop_stream.specs.Octet.{Octet, AfterStop, Ends, Held, Of}
+use Rattle.giop_stream.specs.Octet.{OctetKind, AfterStop, Ends, Held, Of}
 use Rattle.giop_stream.specs.OpenSlots.{known_of}
 use Rattle.giop_stream.proofs.StreamLines.EventsTogether.{sorted_lines}
 use Rattle.giop_stream.proofs.Lists.{by_growth, each_weaker, all_by}
-use Rattle.giop_stream.proofs.Cuts.Cutting.{stopped_at, of_parts, settled_messages}
-use Rattle.giop_stream.proofs.Cuts.CutFrom.{end_message}
+use Rattle.giop_stream.proofs.Cuts.Cutting.{cut_stopped_at, cut_of_parts, settled_messages}
+use Rattle.giop_stream.proofs.Cuts.CutFrom.{cut_with_last_message}
 use Rattle.giop_stream.proofs.Events.EventsOfOctet.{events_of_octet_each}
-use Rattle.giop_stream.proofs.Events.EventsKeep.{Below}
+use Rattle.giop_stream.proofs.Events.EventsKeep.{NumbersAreBelow}
 use Rattle.giop_stream.proofs.Events.AfterMoreEvents.{message_lines_grow, message_lines_same, open_grows, open_idle}
 use Rattle.giop_stream.proofs.Events.Soundness.{settled_if, IsSound}
 use Rattle.giop_stream.proofs.Events.StepCases.{if_some}
 use Rattle.giop_stream.proofs.Cuts.Start.{cut_nothing, open_nothing}
-use Rattle.giop_stream.proofs.CodeSteps.OneOctet.{Then, then_is}
+use Rattle.giop_stream.proofs.CodeSteps.OneOctet.{IsStateThen, then_is}
 use Rattle.giop_stream.proofs.CodeSteps.EngineAlive.{sound}
-use Rattle.giop_stream.proofs.StreamLines.LastLines.{is_over_grows, Dead, dead}
-use Rattle.giop_stream.proofs.StreamLines.FirstMessages.{numbers_of, tail_of, base, alive, dead_tail}
-use Rattle.giop_stream.proofs.Events.UnfinishedKept.{Stays, not_open, stays_events, Known, opener_known, done_known}
+use Rattle.giop_stream.proofs.StreamLines.LastLines.{is_over_grows, IsOverIfFinal, dead}
+use Rattle.giop_stream.proofs.StreamLines.FirstMessages.{numbers_of, current_if_unopened, open_and_current, without_over, dead_tail}
+use Rattle.giop_stream.proofs.Events.UnfinishedKept.{KeepsUnfinished, not_open, stays_events, IsOpenOrOver, opener_known, done_known}
 
 -- What is left at the finish.
-unfoldable pub tail_now : List Open → Option CutMessage → List ℕ
+unfoldable pub tail_now : (still_open : List Open) (current : Option CutMessage) → List ℕ
 tail_now still_open None = []
-tail_now still_open (Some m) = tail_of still_open m
+tail_now still_open (Some m) = current_if_unopened still_open m
 
-pub record IsComplete (R : Rules) (p : List ℕ) : Type 0 where
-  pub kept : alive (is_over R p) (first_messages (messages (cut p)))
-      ≡ alive (is_over R p) (numbers_of (open_after R p)
-      ++ tail_now (open_after R p) (cut p).current)
-  pub named : IfSome (cut p).current (λ m. has_fragments m.header ≡ true →
-      named_at m.header ≤ length m.payload →
-      Known (is_over R p) (open_after R p) m)
+pub record IsComplete (R : Rules) (stream : List ℕ) : Type 0 where
+  pub kept : without_over (is_over R stream) (first_messages (messages (cut stream)))
+      ≡ without_over (is_over R stream) (numbers_of (open_after R stream)
+      ++ tail_now (open_after R stream) (cut stream).current)
+  pub named : IfSome (cut stream).current (λ m. has_fragments m.header ≡ true →
+      lookup_offset m.header ≤ length m.payload →
+      IsOpenOrOver (is_over R stream) (open_after R stream) m)
 
 over_same : (R : Rules) (p p' : List ℕ) → lines_of_messages R p' ≡ lines_of_messages R p →
     is_over R p' ≡ is_over R p
@@ -65,10 +65,10 @@ less_by false true i xs ys test h k = rw h k
 less_by false false i xs ys test h k = search (arith)
 
 alive_less : (over more : ℕ → Bool) (xs : List ℕ) →
-    alive (λ i. over i || more i) xs ≡ filter (λ i. not (more i)) (alive over xs)
-unfolding alive
+    without_over (λ i. over i || more i) xs ≡ filter (λ i. not (more i)) (without_over over xs)
+unfolding without_over
 alive_less over more [] = refl
-alive_less over more (i ∷ xs) = search (arith, less_by, alive, not, alive_less over more xs)
+alive_less over more (i ∷ xs) = search (arith, less_by, without_over, not, alive_less over more xs)
 
 head_of : CutMessage → List ℕ
 head_of m = if is_any_fragment m.header then [] else m.number ∷ []
@@ -80,38 +80,39 @@ unfolding first_messages head_of
 heads_push ms m = search (arith, filter-append, not, map-append, cond, map)
 
 known_tail : (over : ℕ → Bool) (still_open : List Open) (m : CutMessage) →
-    (is_any_fragment m.header ≡ false → Known over still_open m) →
-    alive over (tail_of still_open m) ≡ []
-unfolding tail_of Known alive
-known_tail over still_open m h = search (arith, alive, tail_of, dead_tail)
+    (is_any_fragment m.header ≡ false → IsOpenOrOver over still_open m) →
+    without_over over (current_if_unopened still_open m) ≡ []
+unfolding current_if_unopened IsOpenOrOver without_over
+known_tail over still_open m h = search (arith, without_over, current_if_unopened, dead_tail)
 
-pub alive_append : (over : ℕ → Bool) (xs ys : List ℕ) → alive over (xs ++ ys) ≡ alive over xs
-    ++ alive over ys
-unfolding alive
+pub alive_append : (over : ℕ → Bool) (xs ys : List ℕ) → without_over over (xs ++ ys)
+    ≡ without_over over xs
+    ++ without_over over ys
+unfolding without_over
 alive_append over xs ys = search (arith, filter-append, not)
 
-pub alive_none : (over : ℕ → Bool) → alive over [] ≡ []
-unfolding alive
+pub alive_none : (over : ℕ → Bool) → without_over over [] ≡ []
+unfolding without_over
 alive_none over = refl
 
 alive_same : (over over' more : ℕ → Bool) (xs ys : List ℕ) →
     ((i : ℕ) → over' i ≡ (over i || more i))
-    → alive over xs ≡ alive over ys → alive over' xs ≡ alive over' ys
+    → without_over over xs ≡ without_over over ys → without_over over' xs ≡ without_over over' ys
 alive_same over over' more xs ys h k =
     let mix : over' ≡ (λ i. over i || more i) = λ j i. h i j in
     rw (mix, alive_less over more xs, alive_less over more ys, k) refl
 
 settled_kept : (over : ℕ → Bool) (whole : List CutMessage) (m : CutMessage) (still_open : List Open)
     → (size m.header ≤ length m.payload → is_any_fragment m.header ≡ false →
-    Known over still_open m)
-    → alive over (base still_open m) ≡ alive over
-    (numbers_of still_open ++ tail_now still_open (end_message whole m).current)
-unfolding end_message base tail_now
+    IsOpenOrOver over still_open m)
+    → without_over over (open_and_current still_open m) ≡ without_over over
+    (numbers_of still_open ++ tail_now still_open (cut_with_last_message whole m).current)
+unfolding cut_with_last_message open_and_current tail_now
 settled_kept over whole m still_open h = search (
   arith,
-  alive,
+  without_over,
   numbers_of,
-  tail_of,
+  current_if_unopened,
   known_tail,
   ltb-false,
   alive_append,
@@ -119,33 +120,36 @@ settled_kept over whole m still_open h = search (
 )
 
 known_later : (over over' more : ℕ → Bool) (still_open : List Open) (m : CutMessage) →
-    ((i : ℕ) → over' i ≡ (over i || more i)) → Known over still_open m → Known over' still_open m
-unfolding Known
+    ((i : ℕ) → over' i ≡ (over i || more i)) → IsOpenOrOver over still_open m →
+    IsOpenOrOver over' still_open m
+unfolding IsOpenOrOver
 known_later over over' more still_open m h (inl o) = inl o
 known_later over over' more still_open m h (inr d) = search (arith, or_left)
 
 stays_is : (over : ℕ → Bool) (m : CutMessage) (still_open : List Open) (es : List Event) →
-    Stays over m still_open es
-    → alive over (base (opened still_open es) m) ≡ alive over (base still_open m)
-unfolding Stays
+    KeepsUnfinished over m still_open es
+    → without_over over (open_and_current (open_after_events still_open es) m) ≡ without_over over
+    (open_and_current still_open m)
+unfolding KeepsUnfinished
 stays_is over m still_open es h = h
 
-complete_deal : (R : Rules) → IsCausal R.reading → IsStreamable R.reading → IsEnding R.reading →
+complete_deal : (R : Rules) → KeepsEarlierLines R.reading → IsStreamable R.reading →
+    ClosesWithLastLine R.reading →
     (p p' : List ℕ) (whole : List CutMessage) (m : CutMessage)
-    → length p' ≡ suc (length p) → cut p' ≡ end_message whole m → events R p' ≡ events R p
+    → length p' ≡ suc (length p) → cut p' ≡ cut_with_last_message whole m → events R p' ≡ events R p
     ++ events_of_octet R.most (before_by R (events R p)) m
     → Each (λ e. e.place ≤ length p) (events R p) → place m ≡ suc (length p)
-    → length m.payload ≤ size m.header → (length m.payload ≡ named_at m.header →
-    Below m.number (open_after R p))
-    → alive (is_over R p) (first_messages whole ++ head_of m)
-    ≡ alive (is_over R p) (base (open_after R p) m)
-    → (has_fragments m.header ≡ true → named_at m.header < length m.payload →
-    Known (is_over R p) (open_after R p) m)
+    → length m.payload ≤ size m.header → (length m.payload ≡ lookup_offset m.header →
+    NumbersAreBelow m.number (open_after R p))
+    → without_over (is_over R p) (first_messages whole ++ head_of m)
+    ≡ without_over (is_over R p) (open_and_current (open_after R p) m)
+    → (has_fragments m.header ≡ true → lookup_offset m.header < length m.payload →
+    IsOpenOrOver (is_over R p) (open_after R p) m)
     → IsComplete R p'
 unfolding before_by open_after
 complete_deal R causal laws ending p p' whole m len ec ev old pl fits low start known =
     let b = before_by R (events R p) in
-    let still_open = opened [] (events R p) in
+    let still_open = open_after_events [] (events R p) in
     let es = events_of_octet R.most b m in
     let ls = sorted_lines R.reading (known_of R p) es in
     let here : Each (λ e. e.place ≡ suc (length p)) es =
@@ -154,26 +158,28 @@ complete_deal R causal laws ending p p' whole m len ec ev old pl fits low start 
     in
     let sd = message_lines_grow R causal laws.phased p p' es len ev old here in
     let over = is_over R p' in
-    let d : Each (Dead over) es = dead R ending p p' es sd in
-    let mix : (i : ℕ) → over i ≡ (is_over R p i || list_any (is_last_of i) ls) =
+    let d : Each (IsOverIfFinal over) es = dead R ending p p' es sd in
+    let mix : (i : ℕ) → over i ≡ (is_over R p i || list_any (is_last_line_of i) ls) =
     λ i. is_over_grows R p p' ls i sd in
-    let after : has_fragments m.header ≡ true → named_at m.header < length m.payload →
-    Known over still_open m =
-    λ o long. known_later (is_over R p) over (λ i. list_any (is_last_of i) ls) still_open m mix
+    let after : has_fragments m.header ≡ true → lookup_offset m.header < length m.payload →
+    IsOpenOrOver over still_open m =
+    λ o long. known_later (is_over R p) over (λ i. list_any (is_last_line_of i) ls) still_open m mix
     (known o long) in
     let ms : first_messages (messages (cut p')) ≡ first_messages whole ++ head_of m =
     rw (ec, settled_messages whole m) (heads_push whole m) in
-    let one : alive over (first_messages whole ++ head_of m) ≡ alive over (base still_open m) =
-    alive_same (is_over R p) over (λ i. list_any (is_last_of i) ls)
-    (first_messages whole ++ head_of m) (base still_open m) mix start in
+    let one : without_over over (first_messages whole ++ head_of m) ≡ without_over over
+    (open_and_current still_open m) =
+    alive_same (is_over R p) over (λ i. list_any (is_last_line_of i) ls)
+    (first_messages whole ++ head_of m) (open_and_current still_open m) mix start in
     let two = stays_events R.most over m b still_open low d in
-    let three = settled_kept over whole m (opened still_open es)
+    let three = settled_kept over whole m (open_after_events still_open es)
     (λ full f. done_known R.most over m b still_open f (omega arith) after d) in
-    let named' : IfSome (end_message whole m).current
-    (λ m. has_fragments m.header ≡ true → named_at m.header ≤ length m.payload →
-    Known over (opened still_open es) m) =
-    settled_if whole m (λ m. has_fragments m.header ≡ true → named_at m.header ≤ length m.payload →
-    Known over (opened still_open es) m)
+    let named' : IfSome (cut_with_last_message whole m).current
+    (λ m. has_fragments m.header ≡ true → lookup_offset m.header ≤ length m.payload →
+    IsOpenOrOver over (open_after_events still_open es) m) =
+    settled_if whole m (λ m. has_fragments m.header ≡ true →
+    lookup_offset m.header ≤ length m.payload →
+    IsOpenOrOver over (open_after_events still_open es) m)
     (λ o long. opener_known R.most over m b still_open o long fits (after o) d) in
     record {
       kept = rw (ms, ec, open_grows R p p' es ev)
@@ -182,27 +188,35 @@ complete_deal R causal laws ending p p' whole m len ec ev old pl fits low start 
     }
 
 known_same : (over : ℕ → Bool) (still_open : List Open) (m : CutMessage) (xs : List ℕ) →
-    Known over still_open m → Known over still_open (with_payload m xs)
-unfolding Known
+    IsOpenOrOver over still_open m → IsOpenOrOver over still_open (with_payload m xs)
+unfolding IsOpenOrOver
 known_same over still_open m xs h = h
 
 first_base : (over : ℕ → Bool) (still_open : List Open) (hs : List ℕ) (m : CutMessage) →
-    Below m.number still_open
-    → alive over hs ≡ alive over (numbers_of still_open) →
-    alive over (hs ++ head_of m) ≡ alive over (base still_open m)
-unfolding base tail_of head_of
-first_base over still_open hs m low h = search (arith, not_open, alive, numbers_of, alive_append)
+    NumbersAreBelow m.number still_open
+    → without_over over hs ≡ without_over over (numbers_of still_open) →
+    without_over over (hs ++ head_of m) ≡ without_over over (open_and_current still_open m)
+unfolding open_and_current current_if_unopened head_of
+first_base over still_open hs m low h = search (
+  arith,
+  not_open,
+  without_over,
+  numbers_of,
+  alive_append,
+)
 
 -- what must hold of the message m to which the octet belongs
-record Ready (R : Rules) (p : List ℕ) (m : CutMessage) : Type 0 where
-  start : alive (is_over R p) (first_messages (cut p).whole ++ head_of m)
-      ≡ alive (is_over R p) (base (open_after R p) m)
-  low : length m.payload ≡ named_at m.header → Below m.number (open_after R p)
-  known : has_fragments m.header ≡ true → named_at m.header < length m.payload →
-      Known (is_over R p) (open_after R p) m
+record Ready (R : Rules) (stream : List ℕ) (message : CutMessage) : Type 0 where
+  start : without_over (is_over R stream) (first_messages (cut stream).whole ++ head_of message)
+      ≡ without_over (is_over R stream) (open_and_current (open_after R stream) message)
+  low : length message.payload ≡ lookup_offset message.header → NumbersAreBelow message.number
+      (open_after R stream)
+  known : has_fragments message.header ≡ true →
+      lookup_offset message.header < length message.payload →
+      IsOpenOrOver (is_over R stream) (open_after R stream) message
 
-module _ (R : Rules) (causal : IsCausal R.reading) (laws : IsStreamable R.reading)
-    (ending : IsEnding R.reading) (p : List ℕ) (x : ℕ) (sound : IsSound R p)
+module _ (R : Rules) (causal : KeepsEarlierLines R.reading) (laws : IsStreamable R.reading)
+    (ending : ClosesWithLastLine R.reading) (p : List ℕ) (x : ℕ) (sound : IsSound R p)
     (complete : IsComplete R p) where
   ready_first : (m : CutMessage) → (cut p).current ≡ None → m.payload ≡ [] →
       m.number ≡ suc (length (cut p).whole) → Ready R p m
@@ -212,19 +226,19 @@ module _ (R : Rules) (causal : IsCausal R.reading) (laws : IsStreamable R.readin
     append-nil,
     each_weaker,
     sound,
-    alive,
+    without_over,
     numbers_of,
     first_base,
   )
 
   ready_next : (was : CutMessage) → (cut p).stop ≡ None → (cut p).current ≡ Some was →
       Ready R p (with_octet was x)
-  unfolding messages head_of base tail_of tail_now
+  unfolding messages head_of open_and_current current_if_unopened tail_now
   ready_next was st cur = search (
     arith,
-    alive,
+    without_over,
     numbers_of,
-    tail_of,
+    current_if_unopened,
     if_some,
     sound,
     length_push,
@@ -247,8 +261,8 @@ module _ (R : Rules) (causal : IsCausal R.reading) (laws : IsStreamable R.readin
   unfolding events
   idle c e ms cur = search (arith, complete_quiet, message_lines_same, len, sound)
 
-  complete_then : (o : Octet) → Then R p x o → IsComplete R (p ++ x ∷ [])
-  unfolding of_parts stopped_at messages
+  complete_then : (o : OctetKind) → IsStateThen R p x o → IsComplete R (p ++ x ∷ [])
+  unfolding cut_of_parts cut_stopped_at messages
   complete_then AfterStop h = search (arith, idle)
   complete_then (Ends fault) h = idle _ h.1.cut_is refl refl
   complete_then (Held front) h = search (arith, idle)
@@ -259,10 +273,11 @@ module _ (R : Rules) (causal : IsCausal R.reading) (laws : IsStreamable R.readin
       one.grows sound.places one.place_is one.fits r.low r.start r.known
 
 complete_start : (R : Rules) → IsComplete R []
-unfolding of_parts messages first_messages tail_now numbers_of
+unfolding cut_of_parts messages first_messages tail_now numbers_of
 complete_start R = search (arith, cut_nothing, open_nothing)
 
-pub complete : (R : Rules) → IsCausal R.reading → IsStreamable R.reading → IsEnding R.reading →
+pub complete : (R : Rules) → KeepsEarlierLines R.reading → IsStreamable R.reading →
+    ClosesWithLastLine R.reading →
     (p : List ℕ) → IsComplete R p
 complete R causal laws ending = by_growth (IsComplete R) (complete_start R)
     (λ p x h. let so = sound R causal laws p in

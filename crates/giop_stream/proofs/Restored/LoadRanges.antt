@@ -7,29 +7,29 @@ use Rattle.giop_cdr.specs.Numbers.{AreOctets}
 use Rattle.giop_sig.specs.Table.{Table}
 use Rattle.giop_message.specs.declared.message.Message.{Message as CodeMessage}
 use Rattle.giop_message.specs.Headers.{size}
-use Rattle.giop_message.specs.MessageReader.{IsCausal, IsStreamable}
+use Rattle.giop_message.specs.MessageReader.{KeepsEarlierLines, IsStreamable}
 use Rattle.giop_message.specs.Signatures.{RequestTable, by_list}
 use Rattle.giop_message.proofs.MessageLaws.{is_causal}
 use Rattle.giop_checkpoint.specs.declared.fault.StreamFault.{StreamFault}
 use Rattle.giop_checkpoint.specs.declared.fixed.NextOctet.TheVariants.{Header, Payload}
 use Rattle.giop_checkpoint.specs.declared.layout.Layout.{Layout}
 use Rattle.giop_checkpoint.specs.declared.layout.Layout.TheVariants.{Second, Third, Latest}
-use Rattle.giop_checkpoint.specs.Layouts.{IsAmong, MixedFits, reads}
+use Rattle.giop_checkpoint.specs.Layouts.{IsAmongRecords, MixedFits, reads_layout}
 use Rattle.giop_checkpoint.specs.Fixed.{PlaceHasRange, HasRange}
 use Rattle.giop_stream.specs.Rules.{Rules, joins_by, rules}
-use Rattle.giop_stream.specs.Framing.{Cut, cut, limit, read_of, fault_of}
+use Rattle.giop_stream.specs.Framing.{Cut, cut, limit, octets_read, fault_of}
 use Rattle.giop_stream.specs.Events.{place}
 use Rattle.giop_stream.specs.OpenSlots.{tracked_after}
-use Rattle.giop_stream.specs.Stream.{tally}
-use Rattle.giop_stream.specs.Octet.{Octet, AfterStop, Ends, Held, Of, header_of, octet_of}
-use Rattle.giop_stream.specs.EngineState.{unless, state_of}
+use Rattle.giop_stream.specs.Stream.{totals_so_far}
+use Rattle.giop_stream.specs.Octet.{OctetKind, AfterStop, Ends, Held, Of, header_of, octet_of}
+use Rattle.giop_stream.specs.EngineState.{none_if_stopped, state_of}
 use Rattle.giop_stream.specs.EngineView.{FramingView}
-use Rattle.giop_stream.specs.Checkpoint.{place_of, owner_of, count_own, fixed_of, Spells}
+use Rattle.giop_stream.specs.Checkpoint.{place_of, owner_record_index, count_current, fixed_of, Spells}
 use Rattle.giop_stream.proofs.Lists.{by_growth}
 use Rattle.giop_stream.proofs.Cuts.Start.{cut_nothing}
-use Rattle.giop_stream.proofs.Cuts.Cutting.{stopped_at, of_parts, settle_stop}
-use Rattle.giop_stream.proofs.Events.Soundness.{Fits}
-use Rattle.giop_stream.proofs.CodeSteps.OneOctet.{Then, then_is}
+use Rattle.giop_stream.proofs.Cuts.Cutting.{cut_stopped_at, cut_of_parts, settle_stop}
+use Rattle.giop_stream.proofs.Events.Soundness.{CutFitsStream}
+use Rattle.giop_stream.proofs.CodeSteps.OneOctet.{IsStateThen, then_is}
 use Rattle.giop_stream.proofs.Cuts.OfOctets.{HeaderOctets, header_octets, size_fits}
 use Rattle.giop_stream.proofs.CodeSteps.EngineAlive.{sound}
 use Rattle.giop_stream.proofs.Cuts.OpenMessages.{few_open}
@@ -41,15 +41,15 @@ use Rattle.giop_stream.proofs.Events.FaultsBound.{stop_count, one_stop, tally_fa
 -- ---- The ranges of the place and the owner.
 
 among : (b : Bool) (k many more : ℕ) → nat_lt k many ≡ b →
-    IsAmong (many + more) (if b then Some k else None)
+    IsAmongRecords (many + more) (if b then Some k else None)
 among true k many more e = search (arith, ltb-true)
 among false k many more e = tt
 
-owner_among : (i : Option ℕ) (own : Option CodeMessage) (many : ℕ) →
-    IsAmong (many + count_own own) (owner_of i own many)
+owner_among : (i : Option ℕ) (current : Option CodeMessage) (many : ℕ) →
+    IsAmongRecords (many + count_current current) (owner_record_index i current many)
 owner_among None None many = tt
 owner_among None (Some m) many = omega arith
-owner_among (Some k) own many = search (arith, among)
+owner_among (Some k) current many = search (arith, among)
 
 -- a header has at most 12 octets; if it is complete, its size is below 2^32
 record IsHeader (header : List ℕ) : Type 0 where
@@ -68,9 +68,9 @@ place_range : (stopped : Option StreamFault) (header : List ℕ) (payload_count 
 place_range (Some fault) header payload_count h = tt
 place_range None header payload_count h = search (arith, place_by)
 
-one_own : (own : Option CodeMessage) → count_own own ≤ 1
-one_own None = omega arith
-one_own (Some m) = omega arith
+one_current : (current : Option CodeMessage) → count_current current ≤ 1
+one_current None = omega arith
+one_current (Some m) = omega arith
 
 -- Messages of 1.1 are mixed only where Fragments of 1.1 are joined, which only the latest layout
 -- stores.
@@ -81,7 +81,7 @@ none_mixed false joins e = refl
 not_joined : (version : ℕ) → nat_lt version 3 ≡ true → nat_le 3 version ≡ false
 not_joined version e = search (arith, ltb-true, lt-leb)
 
-mixed_fits : (C : Table) (layout : Layout) (mixed : Bool) → reads C.version layout ≡ true →
+mixed_fits : (C : Table) (layout : Layout) (mixed : Bool) → reads_layout C.version layout ≡ true →
     MixedFits layout (mixed && joins_by C)
 mixed_fits C Second mixed e = none_mixed mixed (joins_by C) (not_joined C.version e)
 mixed_fits C Third mixed e = none_mixed mixed (joins_by C) (not_joined C.version e)
@@ -89,13 +89,13 @@ mixed_fits C Latest mixed e = tt
 
 -- ---- A stream fault is at one of the stream's octets.
 
-abbrev Late : Option (ℕ × StreamFault) → Type 0
-Late None = Unit {0}
-Late (Some found) = 0 < found.0
+abbrev IsAfterFirstOctet : (found : Option (ℕ × StreamFault)) → Type 0
+IsAfterFirstOctet None = Unit {0}
+IsAfterFirstOctet (Some found) = 0 < found.0
 
-read_late : (p : List ℕ) (stop : Option (ℕ × StreamFault)) → Late stop →
-    stop_count stop ≤ read_of p stop
-unfolding read_of stop_count
+read_late : (p : List ℕ) (stop : Option (ℕ × StreamFault)) → IsAfterFirstOctet stop →
+    stop_count stop ≤ octets_read p stop
+unfolding octets_read stop_count
 read_late p None h = omega arith
 read_late p (Some found) h = omega (arith, h)
 
@@ -104,30 +104,32 @@ read_late p (Some found) h = omega (arith, h)
 IsWithin : ℕ → List ℕ → Type 0
 IsWithin n header = IsHeader header × (length header ≤ n)
 
-header_fits : (n : ℕ) (c : Cut) → Fits n c → HeaderOctets c →
+header_fits : (n : ℕ) (c : Cut) → CutFitsStream n c → HeaderOctets c →
     IsWithin n (header_of c.current c.held)
 unfolding IsWithin place
 header_fits n c fits octets = search (arith, size_fits)
 
-module _ (R : Rules) (causal : IsCausal R.reading) (laws : IsStreamable R.reading) where
-  late_by : (p : List ℕ) (x : ℕ) (o : Octet) → Then R p x o → Late (cut p).stop →
-      Late (cut (p ++ x ∷ [])).stop
-  unfolding stopped_at of_parts
+module _ (R : Rules) (causal : KeepsEarlierLines R.reading) (laws : IsStreamable R.reading) where
+  late_by : (p : List ℕ) (x : ℕ) (o : OctetKind) → IsStateThen R p x o →
+      IsAfterFirstOctet (cut p).stop →
+      IsAfterFirstOctet (cut (p ++ x ∷ [])).stop
+  unfolding cut_stopped_at cut_of_parts
   late_by p x AfterStop h ih = rw h.2.cut_is ih
   late_by p x (Ends fault) h ih = rw h.1.cut_is (omega arith)
   late_by p x (Held front) h ih = rw h.2.cut_is tt
   late_by p x (Of now) h ih = search (arith, settle_stop)
 
-  late : (p : List ℕ) → Late (cut p).stop
-  unfolding of_parts
-  late = by_growth (λ p. Late (cut p).stop) (rw cut_nothing tt)
+  late : (p : List ℕ) → IsAfterFirstOctet (cut p).stop
+  unfolding cut_of_parts
+  late = by_growth (λ p. IsAfterFirstOctet (cut p).stop) (rw cut_nothing tt)
       (λ p x. late_by p x (octet_of (cut p) (length p) x)
       (then_is R causal laws p x (sound R causal laws p)))
 
   module _ (p : List ℕ) (octets : AreOctets p) where
     held_by : (stop : Option (ℕ × StreamFault)) → (cut p).stop ≡ stop
-        → IsWithin (read_of p stop) (unless stop [] (header_of (cut p).current (cut p).held))
-    unfolding IsWithin read_of
+        → IsWithin (octets_read p stop) (none_if_stopped stop [] (header_of (cut p).current
+        (cut p).held))
+    unfolding IsWithin octets_read
     held_by (Some found) e = (
       record {
         most = omega arith;
@@ -139,15 +141,15 @@ module _ (R : Rules) (causal : IsCausal R.reading) (laws : IsStreamable R.readin
     held_by None e = header_fits (length p) (cut p) ((sound R causal laws p).fits e)
         (header_octets p octets)
 
-    header_within : IsWithin (tally R p).octets (state_of R p).held
-    unfolding tally state_of
+    header_within : IsWithin (totals_so_far R p).octets (state_of R p).held
+    unfolding totals_so_far state_of
     header_within = held_by (cut p).stop refl
 
-  late_octets : (p : List ℕ) → stop_count (cut p).stop ≤ (tally R p).octets
-  unfolding tally
+  late_octets : (p : List ℕ) → stop_count (cut p).stop ≤ (totals_so_far R p).octets
+  unfolding totals_so_far
   late_octets p = search (arith, read_late, late)
 
-  few_faults : (p : List ℕ) → (tally R p).faults ≤ 3 * (tally R p).octets
+  few_faults : (p : List ℕ) → (totals_so_far R p).faults ≤ 3 * (totals_so_far R p).octets
   few_faults p = search (arith, tally_faults, messages_few, late_octets)
 
 -- ---- The stream that a checkpoint spells.
@@ -157,24 +159,24 @@ free_stop None e = refl
 free_stop (Some found) e = absurd cc
 
 -- bounds for the totals of any stream's engine
-pub record AreTotals (m : FramingView) : Type 0 where
-  pub running : m.stopped ≡ None → m.totals.octets ≤ 2 ^ 48
-  pub messages : m.totals.messages ≤ m.totals.octets
-  pub faults : m.totals.faults ≤ 3 * m.totals.octets
-  pub held : length m.header ≤ m.totals.octets
+pub record AreTotals (fields : FramingView) : Type 0 where
+  pub running : fields.stopped ≡ None → fields.totals.octets ≤ 2 ^ 48
+  pub messages : fields.totals.messages ≤ fields.totals.octets
+  pub faults : fields.totals.faults ≤ 3 * fields.totals.octets
+  pub held : length fields.header ≤ fields.totals.octets
 
 module _ (octets p : List ℕ) (C : Table) (l : RequestTable) (most : ℕ)
     (s : Spells octets C l most p) where
   abbrev R : Rules
   R = rules C l most
 
-  causal : IsCausal R.reading
+  causal : KeepsEarlierLines R.reading
   causal = search (arith, is_causal)
 
   laws : IsStreamable R.reading
   laws = in_turn C (by_list l)
 
-  totals_are : s.memory.totals ≡ tally R p
+  totals_are : s.memory.totals ≡ totals_so_far R p
   unfolding state_of
   totals_are = s.shows.totals
 
@@ -212,7 +214,7 @@ module _ (octets p : List ℕ) (C : Table) (l : RequestTable) (most : ℕ)
     causal,
     laws,
     few_slots,
-    one_own,
+    one_current,
     totals_are,
     tally_faults,
     one_stop,

@@ -11,7 +11,7 @@ use Rattle.giop_message.specs.Signatures.{Answers}
 use Rattle.giop_message.specs.Stored.{Stored}
 use Rattle.giop_checkpoint.specs.declared.record.FirstRecord.{FirstRecord}
 use Rattle.giop_checkpoint.specs.declared.record.RecordKind.TheVariants as record_kinds
-use Rattle.giop_checkpoint.specs.Records.{Entry, EntryHasRange, AreRecords, entry_octets, used}
+use Rattle.giop_checkpoint.specs.Records.{StoredRecord, StoredRecordHasRange, AreRecords, stored_record_octets, first_record_length}
 use Rattle.giop_stream.specs.SlotsRepresent.{OpenEntry}
 use Rattle.giop_stream.specs.declared.slots.Slots.{Slots}
 use Rattle.giop_stream.specs.declared.slots.PayloadOwner.TheVariants as owners
@@ -19,26 +19,27 @@ use Rattle.giop_stream.specs.Events.{MessageKey}
 use Rattle.giop_stream.specs.Lines.{Kept}
 use Rattle.giop_stream.specs.OpenSlots.{Slot as Held}
 use Rattle.giop_stream.specs.SlotsRepresent.{IsReady, RepresentsMessage, IsSlot, AreSlots}
-use Rattle.giop_stream.specs.Checkpoint.{IsStored, IsHeld, open_kind, over_kind, standing_of}
-use Rattle.giop_stream.specs.Reloading.{IsEntry, IsUnbroken, MayBeOpen, HasRoomFor, lacks_key, without_key, MayHaveSeams, pushed, IsOpenEntry, IsCurrentEntry, IsCurrentOwner, AreEntriesOf, AreLeft, HasAdded, HasAddedFirst}
+use Rattle.giop_stream.specs.Checkpoint.{StoresOrZeros, StoresMessage, open_kind, over_kind, open_record_kind}
+use Rattle.giop_stream.specs.Reloading.{IsEntry, IsUnbroken, MayBeOpen, HasRoomFor, lacks_key, without_key, MayHaveSeams, open_entry_of_record, IsOpenEntry, IsCurrentEntry, IsCurrentOwner, AreEntriesOf, AreRecordsLeft, HasAdded, HasAddedFirst}
 use Rattle.giop_stream.proofs.SlotSteps.SlotLists.{are_as_many}
 use Rattle.giop_stream.proofs.Restored.SavedSizes.{entries_range}
 
 -- ---- the fields of a record
 
-number_in : (first : FirstRecord) (e : Entry) → IsEntry first e →
+number_in : (first : FirstRecord) (e : StoredRecord) → IsEntry first e →
     first.«record».number ≡ e.record_is.number
 number_in first e entry = search (arith)
 
-header_in : (first : FirstRecord) (e : Entry) → IsEntry first e →
+header_in : (first : FirstRecord) (e : StoredRecord) → IsEntry first e →
     first.«record».header ≡ e.record_is.header
 header_in first e entry = search (arith)
 
-standing_in : (first : FirstRecord) (e : Entry) → IsEntry first e →
+standing_in : (first : FirstRecord) (e : StoredRecord) → IsEntry first e →
     first.«record».record_kind ≡ e.record_is.record_kind
 standing_in first e entry = search (arith)
 
-stored_in : (m : Message) (e : Entry) (first : FirstRecord) → IsHeld m e → IsEntry first e →
+stored_in : (m : Message) (e : StoredRecord) (first : FirstRecord) → StoresMessage m e
+    → IsEntry first e →
     Stored m first.message first.frames.now
 stored_in m e first is entry = search (arith)
 
@@ -63,7 +64,8 @@ over_not_open (Some a) (Some b) e = cc
 open_not_over : (a b : Option ℕ) → open_kind a ≡ over_kind b → ⊥
 open_not_over a b e = over_not_open b a (sym e)
 
-current_none : (m : Option Message) (key : Option ℕ) → standing_of m key ≡ record_kinds.Current → ⊥
+current_none : (m : Option Message) (key : Option ℕ) → open_record_kind m key
+    ≡ record_kinds.Current → ⊥
 current_none None None e = cc
 current_none None (Some id) e = cc
 current_none (Some m) None e = cc
@@ -73,7 +75,8 @@ current_none (Some m) (Some id) e = cc
 
 -- a message is restored from this record's octets, and follows every stream that the stored one
 -- follows
-abbrev pub Restores : Table → ℕ → FirstRecord → Option Message → Type 0
+abbrev pub Restores : (C : Table) (octets : ℕ) (first : FirstRecord) (found : Option Message) →
+    Type 0
 Restores C octets first found =
     (m : Message) (l : Answers) (phase : Phase) (n : ℕ) (h xs : List ℕ) →
     IsReady C (octets + 1) (Some m) →
@@ -94,7 +97,7 @@ fits_current first (Some kept) h = inr h
 
 module _ (C : Table) (l : Answers) where
   fits_open : (first : FirstRecord) (message : Option Message) (w : MessageKey) (key : Option ℕ)
-      (known : Option Kept) → first.«record».record_kind ≡ standing_of message key →
+      (known : Option Kept) → first.«record».record_kind ≡ open_record_kind message key →
       RepresentsMessage C l message w known → MayBeOpen C key known → FitsRecord first known
   unfolding FitsRecord
   fits_open first message w key None is represents may = tt
@@ -104,35 +107,35 @@ module _ (C : Table) (l : Answers) where
 
 module _ (C : Table) (l : Answers) (first : FirstRecord) where
   -- the record is this entry of an open message, and the message represents these octets
-  record IsOf (e : Entry) (w : MessageKey) (message : Option Message)
+  record IsOf (e : StoredRecord) (w : MessageKey) (message : Option Message)
       (known : Option Kept) (key : Option ℕ) : Type 0 where
     entry : IsEntry first e
-    record_kind : first.«record».record_kind ≡ standing_of message key
-    stored : IsStored message e
+    record_kind : first.«record».record_kind ≡ open_record_kind message key
+    stored : StoresOrZeros message e
     kept : RepresentsMessage C l message w known
     fits : FitsRecord first known
     number : w.number ≡ first.«record».number
     header : w.header ≡ first.«record».header
 
   -- such a message is restored
-  abbrev IsAgain : MessageKey → Option Message → Option Kept → Type 0
-  IsAgain w found known = (is_some found ≡ true) × RepresentsMessage C l found w known
+  abbrev IsRestored : (key : MessageKey) (found : Option Message) (known : Option Kept) → Type 0
+  IsRestored w found known = (is_some found ≡ true) × RepresentsMessage C l found w known
 
   is_again : (w : MessageKey) (kept : Kept) (found : Option Message) →
       IsSomeAnd found (λ m. Follows C l kept.phase w.number w.header m kept.octets) →
-      IsAgain w found (Some kept)
+      IsRestored w found (Some kept)
   is_again w kept None h = absurd h
   is_again w kept (Some m) h = (refl, h)
 
   -- a message that is over has no frames, and zeros for its octets
-  abbrev IsNothing : MessageKey → Option Kept → Type 0
-  IsNothing w known = (first.frames.now ≡ []) × (first.message ≡ replicate 224 0)
+  abbrev IsStoredAsNothing : (key : MessageKey) (known : Option Kept) → Type 0
+  IsStoredAsNothing w known = (first.frames.now ≡ []) × (first.message ≡ replicate 224 0)
       × RepresentsMessage C l None w known
 
-  over_by : (e : Entry) (w : MessageKey) (message : Option Message)
+  over_by : (e : StoredRecord) (w : MessageKey) (message : Option Message)
       (known : Option Kept) (kid id : Option ℕ) →
       IsOf e w message known kid → first.«record».record_kind ≡ over_kind id →
-      (kid ≡ id) × IsNothing w known
+      (kid ≡ id) × IsStoredAsNothing w known
   over_by e w None None kid id is over = search (arith, over_id)
   over_by e w None (Some kept) kid id is over = absurd is.kept
   over_by e w (Some m) known kid id is over = search (arith, open_not_over)
@@ -141,7 +144,7 @@ module _ (C : Table) (l : Answers) (octets : ℕ) (first : FirstRecord) where
   pub current_again : (w : MessageKey) (known : Option Kept) (found : Option Message) →
       IsCurrentEntry C l (octets + 1) first w known → Restores C octets first found →
       (is_some found ≡ true) × RepresentsMessage C l found w known
-  current_again w None found is again = absurd is.own_is
+  current_again w None found is again = absurd is.represents
   current_again w (Some kept) found is again =
       let m = is.message in
       let e = is.entry in
@@ -149,14 +152,14 @@ module _ (C : Table) (l : Answers) (octets : ℕ) (first : FirstRecord) where
       (again m l kept.phase w.number w.header kept.octets is.ready
       (sym (number_in first e is.read ∙ is.entry_is.number_is))
       (sym (header_in first e is.read ∙ is.entry_is.header_is))
-      (stored_in m e first is.entry_is.message is.read) (inr is.whole) is.own_is)
+      (stored_in m e first is.entry_is.message is.read) (inr is.whole) is.represents)
 
-  open_by : (e : Entry) (w : MessageKey) (found message : Option Message)
+  open_by : (e : StoredRecord) (w : MessageKey) (found message : Option Message)
       (known : Option Kept) (kid id : Option ℕ) →
       IsOf C l first e w message known kid →
       first.«record».record_kind ≡ open_kind id →
       IsReady C (octets + 1) message → Restores C octets first found → (kid ≡ id)
-      × IsAgain C l first w found known
+      × IsRestored C l first w found known
   unfolding FitsRecord
   open_by e w found None known kid id is opened ready again = search (arith, over_not_open)
   open_by e w found (Some m) None kid id is opened ready again = absurd is.kept
@@ -170,9 +173,9 @@ module _ (C : Table) (l : Answers) (octets : ℕ) (first : FirstRecord) where
 
 module _ (C : Table) (l : Answers) (at : ℕ) (first : FirstRecord) (held : Held) where
   kind_of : (is : IsOpenEntry C l at first held) →
-      first.«record».record_kind ≡ standing_of is.kept.value.message held.open_as.key
+      first.«record».record_kind ≡ open_record_kind is.kept.value.message held.open_as.key
   kind_of is = standing_in first is.entry is.read ∙ is.entry_is.record_kind
-      ∙ ap (standing_of is.kept.value.message) is.slot_is.key
+      ∙ ap (open_record_kind is.kept.value.message) is.slot_is.key
 
   fits_of : IsOpenEntry C l at first held → FitsRecord first held.kept
   fits_of is = fits_open C l first is.kept.value.message held.open_as.opener held.open_as.key
@@ -186,13 +189,13 @@ module _ (C : Table) (l : Answers) (at : ℕ) (first : FirstRecord) (held : Held
   slot_again : (id : Option ℕ) (found : Option Message) (is : IsOpenEntry C l at first held) →
       is.kept.key ≡ id →
       RepresentsMessage C l found held.open_as.opener held.kept →
-      IsSlot C l (pushed first id found) held
+      IsSlot C l (open_entry_of_record first id found) held
   slot_again id found is same kept = search (arith, number_in, header_in)
 
   pub over_again : (id : Option ℕ) → IsOpenEntry C l at first held →
       first.«record».record_kind ≡ over_kind id →
       (first.frames.now ≡ []) × (first.message ≡ replicate 224 0)
-      × IsSlot C l (pushed first id None) held
+      × IsSlot C l (open_entry_of_record first id None) held
   over_again id is over = search (arith, over_by, of_slot, slot_again)
 
   -- ---- the message of a record: an open one or the current one
@@ -204,7 +207,8 @@ module _ (C : Table) (l : Answers) (at : ℕ) (first : FirstRecord) (held : Held
 pub open_again : (C : Table) (l : Answers) (octets : ℕ) (first : FirstRecord) (held : Held)
     (id : Option ℕ) (found : Option Message) →
     IsOpenEntry C l (octets + 1) first held → first.«record».record_kind ≡ open_kind id →
-    Restores C octets first found → (is_some found ≡ true) × IsSlot C l (pushed first id found) held
+    Restores C octets first found → (is_some found ≡ true) ×
+    IsSlot C l (open_entry_of_record first id found) held
 open_again C l octets first held id found is opened again =
     let of = of_slot C l (octets + 1) first held is in
     let made = open_by C l octets first is.entry held.open_as.opener found is.kept.value.message
@@ -258,20 +262,20 @@ module _ (C : Table) (l : Answers) where
 -- ---- the first of the records that are left
 
 -- the record that was read first is the record of this entry, and these are the octets after it
-abbrev pub IsRead : FirstRecord → Entry → List ℕ → Type 0
+abbrev pub IsRead : (first : FirstRecord) (stored : StoredRecord) (rest : List ℕ) → Type 0
 IsRead first e rest =
     (first.«record» ≡ e.record_is) × (first.message ≡ e.message) × (first.frames.now ≡ e.frames)
     × (first.rest.now ≡ rest)
 
 -- the first record is the entry of an open message
 pub record FrontOpen (C : Table) (l : Answers) (at count : ℕ) (first : FirstRecord)
-    (held : List Held) (w : MessageKey) (xs : Option Kept)
+    (held : List Held) (key : MessageKey) (xs : Option Kept)
     : Type 0 where
   pub here : Held
   pub others : List Held
   pub held_are : held ≡ here ∷ others
   pub is : IsOpenEntry C l at first here
-  pub left : AreLeft C l at (count - 1) first.rest.now others w xs
+  pub left : AreRecordsLeft C l at (count - 1) first.rest.now others key xs
 
 -- the first record is the entry of the current message
 pub record FrontOwn (C : Table) (l : Answers) (at count : ℕ) (first : FirstRecord)
@@ -283,21 +287,23 @@ pub record FrontOwn (C : Table) (l : Answers) (at count : ℕ) (first : FirstRec
 
 module _ (C : Table) (l : Answers) (at count : ℕ) (octets : List ℕ) (w : MessageKey)
     (xs : Option Kept) where
-  pub front_found : (held : List Held) → AreLeft C l at count octets held w xs →
+  pub front_found : (held : List Held) → AreRecordsLeft C l at count octets held w xs →
       (count ≡ 0 → ⊥) →
-      ((e : Entry) (rest : List ℕ) → EntryHasRange e → octets ≡ entry_octets e ++ rest → ⊥) → ⊥
+      ((e : StoredRecord) (rest : List ℕ) → StoredRecordHasRange e → octets ≡ stored_record_octets e
+      ++ rest → ⊥) → ⊥
   front_found held left some read =
       go left.entries left.are.count_is left.are.octets_are
       (entries_range left.kept left.current left.entries left.are.entries_are)
     where
-      go : (es : List Entry) → count ≡ length es → octets ≡ flat_map entry_octets es →
-          Each EntryHasRange es → ⊥
+      go : (es : List StoredRecord) → count ≡ length es → octets ≡ flat_map stored_record_octets es
+          →
+          Each StoredRecordHasRange es → ⊥
       go [] many spelled range = some many
       go (e ∷ es) many spelled range = search (arith, flat_map)
 
   none_by : (slots : Slots) → slots.owner ≡ owners.Open None → count ≡ 0 →
       (kept : List OpenEntry) (held : List Held)
-      (current : Option Message) (entries : List Entry) →
+      (current : Option Message) (entries : List StoredRecord) →
       AreEntriesOf C l at count octets kept held current w xs entries →
       HasAdded C l slots slots held × IsCurrentOwner C l slots.owner w xs
   none_by slots bare none [] [] None [] is = search (arith, added_none)
@@ -310,32 +316,33 @@ module _ (C : Table) (l : Answers) (at count : ℕ) (octets : List ℕ) (w : Mes
   none_by slots bare none (k ∷ ks) (h ∷ hs) current (e ∷ es) is = search (arith)
 
   pub all_none : (slots : Slots) (held : List Held) →
-      AreLeft C l at count octets held w xs →
+      AreRecordsLeft C l at count octets held w xs →
       count ≡ 0 → slots.owner ≡ owners.Open None → HasAdded C l slots slots held
       × IsCurrentOwner C l slots.owner w xs
   all_none slots held left none bare =
       none_by slots bare none left.kept held left.current left.entries left.are
 
   module _ (first : FirstRecord) (some : count ≡ 0 → ⊥)
-      (read : (e : Entry) (rest : List ℕ) → EntryHasRange e → octets ≡ entry_octets e ++ rest →
+      (read : (e : StoredRecord) (rest : List ℕ) → StoredRecordHasRange e → octets
+      ≡ stored_record_octets e ++ rest →
       IsRead first e rest) where
-    entry_read : (e : Entry) (es : List Entry) → EntryHasRange e →
-        octets ≡ flat_map entry_octets (e ∷ es) → IsEntry first e
+    entry_read : (e : StoredRecord) (es : List StoredRecord) → StoredRecordHasRange e →
+        octets ≡ flat_map stored_record_octets (e ∷ es) → IsEntry first e
     entry_read e es range spelled = search (arith, flat_map)
 
-    front_own : (m : Message) (e : Entry)
-        (es : List Entry) → AreEntriesOf C l at count octets [] [] (Some m) w xs (e ∷ es) →
+    front_own : (m : Message) (e : StoredRecord)
+        (es : List StoredRecord) → AreEntriesOf C l at count octets [] [] (Some m) w xs (e ∷ es) →
         FrontOwn C l at count first [] w xs
     front_own m e es is = search (arith, entry_read)
 
     front_open : (k : OpenEntry) (ks : List OpenEntry) (h : Held) (hs : List Held)
-        (current : Option Message) (e : Entry) (es : List Entry) →
+        (current : Option Message) (e : StoredRecord) (es : List StoredRecord) →
         AreEntriesOf C l at count octets (k ∷ ks) (h ∷ hs) current w xs (e ∷ es) →
         FrontOpen C l at count first (h ∷ hs) w xs
     front_open k ks h hs current e es is = search (arith, entry_read, flat_map)
 
     front_by : (kept : List OpenEntry) (held : List Held) (current : Option Message)
-        (entries : List Entry) →
+        (entries : List StoredRecord) →
         AreEntriesOf C l at count octets kept held current w xs entries →
         FrontOpen C l at count first held w xs ⊎ FrontOwn C l at count first held w xs
     front_by [] [] None [] is = absurd (some is.count_is)
@@ -347,7 +354,7 @@ module _ (C : Table) (l : Answers) (at count : ℕ) (octets : List ℕ) (w : Mes
     front_by (k ∷ ks) (h ∷ hs) current [] is = absurd is.entries_are
     front_by (k ∷ ks) (h ∷ hs) current (e ∷ es) is = search (arith, front_open)
 
-    pub front_is : (held : List Held) → AreLeft C l at count octets held w xs →
+    pub front_is : (held : List Held) → AreRecordsLeft C l at count octets held w xs →
         FrontOpen C l at count first held w xs ⊎ FrontOwn C l at count first held w xs
     front_is held left = search (arith, front_by)
 
@@ -357,9 +364,9 @@ false_not_true : false ≡ true → ⊥
 false_not_true e = cc
 
 -- all messages whose records were left are added
-abbrev pub IsAll : Table → Answers → Bool → Slots → Slots → List Held → MessageKey →
-    Option Kept → Type 0
-IsAll C l result before after held w xs =
+abbrev pub HasAddedAll : (C : Table) (answers : Answers) (result : Bool) (before after : Slots)
+    (held : List Held) (key : MessageKey) (xs : Option Kept) → Type 0
+HasAddedAll C l result before after held w xs =
     (result ≡ true) × HasAdded C l before after held × IsCurrentOwner C l after.owner w xs
 
 -- the keys of messages that represent others are theirs
@@ -436,13 +443,13 @@ module _ (C : Table) (l : Answers) (at count : ℕ) (w : MessageKey) (xs : Optio
     (result : Bool)
     (same_most : mid.slots.most ≡ before.slots.most)
     (none : count - 1 ≡ 0 → (result ≡ true) × (after ≡ mid))
-    (again : (hs : List Held) → AreLeft C l at (count - 1) rest hs w xs →
+    (again : (hs : List Held) → AreRecordsLeft C l at (count - 1) rest hs w xs →
     HasRoomFor mid hs → mid.owner ≡ owners.Open None →
-    IsAll C l result mid after hs w xs) where
+    HasAddedAll C l result mid after hs w xs) where
   all_again : (held : List Held) →
       HasAddedFirst C l at count before mid rest held w xs →
       HasRoomFor before held →
-      before.owner ≡ owners.Open None → IsAll C l result before after held w xs
+      before.owner ≡ owners.Open None → HasAddedAll C l result before after held w xs
   all_again held (inl f) room bare =
       let space = room_left C l before mid held f.here f.others room f.held_are same_most f.added in
       let more = again f.others f.left space (f.same_owner ∙ bare) in
@@ -455,17 +462,18 @@ module _ (C : Table) (l : Answers) (at count : ℕ) (w : MessageKey) (xs : Optio
 
 -- Records were added up to `mid`, and `left` records remain, whose octets are `rest`. If a call
 -- adds those, all records are added.
-abbrev pub Completes : Table → Answers → ℕ → ℕ → List ℕ → MessageKey → Option Kept → Slots →
-    Slots → ℕ → List ℕ → Type 0
+abbrev pub Completes : (C : Table) (answers : Answers) (at count : ℕ) (octets : List ℕ)
+    (key : MessageKey)
+    (xs : Option Kept) (before mid : Slots) (left : ℕ) (rest : List ℕ) → Type 0
 Completes C l at count octets w xs before mid left rest =
     (result : Bool) (after : Slots) → (left ≡ 0 → (result ≡ true) × (after ≡ mid)) →
-    ((hs : List Held) → AreLeft C l at left rest hs w xs →
+    ((hs : List Held) → AreRecordsLeft C l at left rest hs w xs →
     HasRoomFor mid hs → mid.owner ≡ owners.Open None →
-    IsAll C l result mid after hs w xs) →
-    (held : List Held) → AreLeft C l at count octets held w xs →
+    HasAddedAll C l result mid after hs w xs) →
+    (held : List Held) → AreRecordsLeft C l at count octets held w xs →
     HasRoomFor before held →
     before.owner ≡ owners.Open None →
-    IsAll C l result before after held w xs
+    HasAddedAll C l result before after held w xs
 
 module _ (C : Table) (l : Answers) (at count : ℕ) (octets : List ℕ) (w : MessageKey)
     (xs : Option Kept) (before : Slots) where
@@ -474,41 +482,42 @@ module _ (C : Table) (l : Answers) (at count : ℕ) (octets : List ℕ) (w : Mes
 
   module _ (mid : Slots) (left : ℕ) (rest : List ℕ)
       (before_here : Completes C l at count octets w xs before mid left rest) where
-    pub one_more : (next : Slots) (behind : List ℕ) → (left ≡ 0 → ⊥) →
+    pub one_more : (next : Slots) (after_record : List ℕ) → (left ≡ 0 → ⊥) →
         next.slots.most ≡ mid.slots.most →
-        ((hs : List Held) → AreLeft C l at left rest hs w xs →
+        ((hs : List Held) → AreRecordsLeft C l at left rest hs w xs →
         HasRoomFor mid hs → mid.owner ≡ owners.Open None →
-        HasAddedFirst C l at left mid next behind hs w xs) →
-        Completes C l at count octets w xs before next (left - 1) behind
-    one_more next behind some same_most first result after none again =
+        HasAddedFirst C l at left mid next after_record hs w xs) →
+        Completes C l at count octets w xs before next (left - 1) after_record
+    one_more next after_record some same_most first result after none again =
         before_here result after (λ z. absurd (some z))
-        (λ hs are room bare. all_again C l at left w xs mid next after behind result same_most none
+        (λ hs are room bare.
+        all_again C l at left w xs mid next after after_record result same_most none
         again hs (first hs are room bare) room bare)
 
     pub no_more : left ≡ 0 → (held : List Held) →
-        AreLeft C l at count octets held w xs →
+        AreRecordsLeft C l at count octets held w xs →
         HasRoomFor before held →
-        before.owner ≡ owners.Open None → IsAll C l true before mid held w xs
+        before.owner ≡ owners.Open None → HasAddedAll C l true before mid held w xs
     no_more none =
         before_here true mid (λ z. (refl, refl))
         (λ hs are room bare. let made = all_none C l at left rest w xs mid hs are none bare in
         (refl, made.0, made.1))
 
     pub not_one : (left ≡ 0 → ⊥) → ((hs : List Held) →
-        AreLeft C l at left rest hs w xs →
+        AreRecordsLeft C l at left rest hs w xs →
         HasRoomFor mid hs → mid.owner ≡ owners.Open None →
         ⊥) →
-        (held : List Held) → AreLeft C l at count octets held w xs →
+        (held : List Held) → AreRecordsLeft C l at count octets held w xs →
         HasRoomFor before held →
         before.owner ≡ owners.Open None → ⊥
     not_one some fails held are room bare =
-        let all : IsAll C l false before mid held w xs =
+        let all : HasAddedAll C l false before mid held w xs =
         before_here false mid (λ z. absurd (some z))
         (λ hs here space none. absurd (fails hs here space none)) held are room bare in
         false_not_true all.0
 
 -- the records that are left after the first of `n` records
 pub records_left : (n : ℕ) (xs : List ℕ) → (n ≡ 0 → ⊥) → AreRecords n xs →
-    (used xs ≤ length xs) × AreRecords (n - 1) (drop (used xs) xs)
+    (first_record_length xs ≤ length xs) × AreRecords (n - 1) (drop (first_record_length xs) xs)
 records_left zero xs some are = absurd (some refl)
 records_left (suc n) xs some are = search (arith, drop)

@@ -14,22 +14,22 @@ use Rattle.giop_checkpoint.specs.declared.fault.StreamFault.{StreamFault}
 use Rattle.giop_checkpoint.specs.declared.fixed.Fixed.{Fixed}
 use Rattle.giop_checkpoint.specs.declared.fixed.NextOctet.{NextOctet}
 use Rattle.giop_checkpoint.specs.declared.fixed.NextOctet.TheVariants.{Header, Payload}
-use Rattle.giop_checkpoint.specs.Records.{entry_octets}
+use Rattle.giop_checkpoint.specs.Records.{stored_record_octets}
 use Rattle.giop_stream.specs.declared.slots.Slots.{Slots}
 use Rattle.giop_stream.specs.declared.slots.PayloadOwner.{PayloadOwner}
 use Rattle.giop_stream.specs.declared.slots.PayloadOwner.TheVariants as owners
 use Rattle.giop_stream.specs.Rules.{Rules, joins_by, rules}
 use Rattle.giop_stream.specs.Framing.{fault_of}
-use Rattle.giop_stream.specs.Events.{MessageKey, Open, Rising, before_by}
+use Rattle.giop_stream.specs.Events.{MessageKey, Open, NumbersRise, before_by}
 use Rattle.giop_stream.specs.Lines.{Kept}
 use Rattle.giop_stream.specs.OpenSlots.{Slot as Held, KeptByNumber, Tracked, IsNotOpen, tracked_after, slots_of, slots_at}
-use Rattle.giop_stream.specs.EngineState.{State, unless, state_of}
+use Rattle.giop_stream.specs.EngineState.{State, none_if_stopped, state_of}
 use Rattle.giop_stream.specs.SlotsRepresent.{RepresentsMessage, AreSlots, PayloadBelongs, index_of, current_of}
 use Rattle.giop_stream.specs.ViewOfState.{Shows, payload_count_in}
 use Rattle.giop_stream.specs.EngineView.{FramingView}
-use Rattle.giop_stream.specs.Checkpoint.{place_of, owner_of, fixed_of, Spells}
+use Rattle.giop_stream.specs.Checkpoint.{place_of, owner_record_index, fixed_of, Spells}
 use Rattle.giop_stream.specs.Reloading as fields
-use Rattle.giop_stream.specs.Reloading.{IsUnbroken, MayBeOpen, HasRoomFor, without_key, AreLeft, HasAdded, IsCurrentOwner}
+use Rattle.giop_stream.specs.Reloading.{IsUnbroken, MayBeOpen, HasRoomFor, without_key, AreRecordsLeft, HasAdded, IsCurrentOwner}
 use Rattle.giop_stream.proofs.Lists.{each_append, each_weaker}
 use Rattle.giop_stream.proofs.SlotSteps.SlotLists.{slots_many, are_as_many}
 use Rattle.giop_stream.proofs.SlotSteps.EventsOnSlots.{no_key}
@@ -79,7 +79,7 @@ module _ (C : Table) (c : Tracked) (keys : HasKeys (joins_by C) c) where
           (rw all (only_one o id e before after low high)))
 
   may_all : (before after : List Open) → c.still_open ≡ before ++ after →
-      Each (λ a. Each (λ b. a.opener.number < b.opener.number) after) before → Rising after →
+      Each (λ a. Each (λ b. a.opener.number < b.opener.number) after) before → NumbersRise after →
       Each (λ o. o.key ≡ None → joins_by C ≡ true) after →
       Each (λ slot. MayBeOpen C slot.open_as.key slot.kept) (slots_of c.known after)
   unfolding slots_of
@@ -93,7 +93,7 @@ module _ (C : Table) (c : Tracked) (keys : HasKeys (joins_by C) c) where
         rising.1 joined.1,
   )
 
-  all_may : Rising c.still_open →
+  all_may : NumbersRise c.still_open →
       Each (λ slot. MayBeOpen C slot.open_as.key slot.kept) (slots_at c)
   all_may rising = may_all [] c.still_open refl tt rising keys.joined
 
@@ -108,13 +108,13 @@ keys_of_slots known (o ∷ still_open) = omega (arith, keys_of_slots known still
 -- octets
 
 pub record CanStand (C : Table) (l : Answers) (i : Option ℕ) (message : Option Message)
-    (c : Tracked) (owner : Option MessageKey) : Type 0 where
+    (tracked : Tracked) (owner : Option MessageKey) : Type 0 where
   pub w : MessageKey
   pub known : Option Kept
   pub is : RepresentsMessage C l message w known
   pub whole : IsUnbroken known
   pub again : (m : Option Message) → i ≡ None → RepresentsMessage C l m w known →
-      PayloadBelongs C l None m c owner
+      PayloadBelongs C l None m tracked owner
 
 module _ (C : Table) (l : Answers) (c : Tracked) (keys : HasKeys (joins_by C) c) where
   over : (m : Option Message) → RepresentsMessage C l m no_key None → m ≡ None
@@ -171,8 +171,8 @@ module _ (octets p : List ℕ) (C : Table) (l : RequestTable) (most : ℕ)
   each_may = all_may C _ keys (rising_of p C l most)
 
   pub spells_left : (fixed : Fixed) (records : List ℕ) → fixed ≡ fixed_of C l s.memory →
-      records ≡ flat_map entry_octets s.entries →
-      AreLeft C (by_list l) (fixed.octets + 1) fixed.records records
+      records ≡ flat_map stored_record_octets s.entries →
+      AreRecordsLeft C (by_list l) (fixed.octets + 1) fixed.records records
       (slots_at (state_of (rules C l most) p).tracked) stand.w stand.known
   unfolding fixed_of
   spells_left fixed records is are = search (arith, entries_count, stand, each_may)
@@ -201,19 +201,20 @@ limit_is octets p C l most s fixed is = search (arith)
 
 -- ---- where the stream stands: in a header, in a payload, or stopped
 
-behind_none : (found : Option (ℕ × StreamFault)) (held : List ℕ) (fault : StreamFault) →
+empty_by_stop : (found : Option (ℕ × StreamFault)) (held : List ℕ) (fault : StreamFault) →
     fault_of found ≡ Some fault →
-    unless found [] held ≡ []
-behind_none None held fault e = absurd cc
-behind_none (Some found) held fault e = refl
+    none_if_stopped found [] held ≡ []
+empty_by_stop None held fault e = absurd cc
+empty_by_stop (Some found) held fault e = refl
 
-held_behind : (R : Rules) (p : List ℕ) (fault : StreamFault) → (state_of R p).stop ≡ Some fault →
+empty_after_stop : (R : Rules) (p : List ℕ) (fault : StreamFault) →
+    (state_of R p).stop ≡ Some fault →
     (state_of R p).held ≡ []
 unfolding state_of
-held_behind R p fault e = search (arith, behind_none)
+empty_after_stop R p fault e = search (arith, empty_by_stop)
 
 -- the place, if the header is incomplete, or if the stream is in a payload
-abbrev running_place : Bool → List ℕ → ℕ → NextOctet
+abbrev running_place : (b : Bool) (header : List ℕ) (payload_count : ℕ) → NextOctet
 running_place b header payload_count = if b then Header (record { items = header }) else Payload
     header (size header - payload_count)
 
@@ -233,17 +234,17 @@ header_by true header payload_count = refl
 header_by false header payload_count = refl
 
 -- after a stream fault, no header octet is held
-abbrev IsBehind : Option StreamFault → List ℕ → Type 0
-IsBehind stopped header = (fault : StreamFault) → stopped ≡ Some fault → header ≡ []
+abbrev IsEmptyAfterStop : (stopped : Option StreamFault) (header : List ℕ) → Type 0
+IsEmptyAfterStop stopped header = (fault : StreamFault) → stopped ≡ Some fault → header ≡ []
 
 header_again : (stopped : Option StreamFault) (header : List ℕ) (payload_count : ℕ) →
-    IsBehind stopped header →
+    IsEmptyAfterStop stopped header →
     fields.header_in (place_of stopped header payload_count) ≡ header
-header_again (Some fault) header payload_count behind = sym (behind fault refl)
-header_again None header payload_count behind = search (arith, header_by)
+header_again (Some fault) header payload_count empty = sym (empty fault refl)
+header_again None header payload_count empty = search (arith, header_by)
 
 -- how many payload octets have come, if it is known how many are still to come
-abbrev payload_count_of : Bool → List ℕ → ℕ → ℕ
+abbrev payload_count_of : (b : Bool) (header : List ℕ) (left : ℕ) → ℕ
 payload_count_of b header left = if b then 0 else size header - left
 
 twice : (n k : ℕ) → n - (n - (n - k)) ≡ n - k
@@ -256,28 +257,29 @@ come_by true header left payload_count e = sym e
 come_by false header left payload_count e = search (arith, twice)
 
 come_again : (stopped : Option StreamFault) (header : List ℕ) (left payload_count : ℕ) →
-    IsBehind stopped header →
+    IsEmptyAfterStop stopped header →
     payload_count ≡ payload_count_of (nat_lt (length header) 12) header left →
     fields.payload_count_in (place_of stopped header payload_count) ≡ payload_count
-come_again (Some fault) header left payload_count behind e =
+come_again (Some fault) header left payload_count empty e =
     sym (e ∙ ap (λ (xs : List ℕ). payload_count_of (nat_lt (length xs) 12) xs left)
-    (behind fault refl))
-come_again None header left payload_count behind e =
+    (empty fault refl))
+come_again None header left payload_count empty e =
     come_by (nat_lt (length header) 12) header left payload_count e
 
 -- ---- the owner of the payload
 
 -- If such a message was loaded, the owner that is loaded is the owner of the stream's octets too.
-owner_again : (C : Table) (l : Answers) (i : Option ℕ) (own : Option Message) (made : PayloadOwner)
-    (many : ℕ) (c : Tracked) (owner : Option MessageKey) (s : CanStand C l i own c owner) →
+owner_again : (C : Table) (l : Answers) (i : Option ℕ) (message : Option Message)
+    (made : PayloadOwner) (many : ℕ) (c : Tracked) (owner : Option MessageKey)
+    (s : CanStand C l i message c owner) →
     many ≡ length (slots_at c) →
-    PayloadBelongs C l i own c owner → IsCurrentOwner C l made s.w s.known →
-    (let of = fields.owner_by (owner_of i own many) many made in
+    PayloadBelongs C l i message c owner → IsCurrentOwner C l made s.w s.known →
+    (let of = fields.owner_by (owner_record_index i message many) many made in
     PayloadBelongs C l (index_of of) (current_of of) c owner)
 owner_again C l None None made many c owner s long is current = search (arith)
 owner_again C l None (Some m) made many c owner s long is current = search (arith, le-ltb)
-owner_again C l (Some k) own made many c None s long is current = absurd is
-owner_again C l (Some k) own made many c (Some w) s long is current = search (
+owner_again C l (Some k) message made many c None s long is current = absurd is
+owner_again C l (Some k) message made many c (Some w) s long is current = search (
   arith,
   slots_many,
   slice_get_within,
@@ -328,9 +330,9 @@ module _ (octets p : List ℕ) (C : Table) (l : RequestTable) (most : ℕ)
   state : State
   state = state_of (rules C l most) p
 
-  behind : IsBehind s.memory.stopped s.memory.header
+  empty : IsEmptyAfterStop s.memory.stopped s.memory.header
   unfolding state
-  behind fault e = search (arith, held_behind)
+  empty fault e = search (arith, empty_after_stop)
 
   come_is : s.memory.payload_count ≡ payload_count_of (nat_lt (length s.memory.header) 12)
       s.memory.header state.left
@@ -340,11 +342,11 @@ module _ (octets p : List ℕ) (C : Table) (l : RequestTable) (most : ℕ)
   owner_is : (many : ℕ) (made : PayloadOwner) → many ≡ length (slots_at state.tracked) →
       IsCurrentOwner C (by_list l) made (stand octets p C l most s).w
       (stand octets p C l most s).known →
-      (let of = fields.owner_by (owner_of (index_of s.memory.slots.owner)
+      (let of = fields.owner_by (owner_record_index (index_of s.memory.slots.owner)
       (current_of s.memory.slots.owner) (length s.memory.slots.slots.entries)) many made in
       PayloadBelongs C (by_list l) (index_of of) (current_of of) state.tracked state.owner)
   unfolding state
-  owner_is many made long own = search (arith, are_as_many, owner_again, stand)
+  owner_is many made long current = search (arith, are_as_many, owner_again, stand)
 
   mixed_again : ((s.memory.slots.is_mixed && joins_by C) || not (joins_by C)) ≡ state.tracked.mixed
   unfolding state state_of tracked_after before_by
@@ -357,12 +359,12 @@ module _ (octets p : List ℕ) (C : Table) (l : RequestTable) (most : ℕ)
         IsCurrentOwner C (by_list l) slots.owner (stand octets p C l most s).w
         (stand octets p C l most s).known → Shows C (by_list l) m state
     unfolding state fixed_of
-    shows_fixed is added own = search (
+    shows_fixed is added current = search (
       arith,
       added_all,
       stop_again,
       header_again,
-      behind,
+      empty,
       come_again,
       come_is,
       owner_is,
@@ -377,7 +379,7 @@ module _ (octets p : List ℕ) (C : Table) (l : RequestTable) (most : ℕ)
         (stand octets p C l most s).known →
         Shows C (by_list l) m (state_of (rules C l most) p)
     unfolding state
-    shows_again fixed e is added own = search (arith, shows_fixed)
+    shows_again fixed e is added current = search (arith, shows_fixed)
 
   module _ (stop : Option StreamFault) (long : ℕ) where
     totals_fixed : stop ≡ fields.stop_in (fixed_of C l s.memory).place →
@@ -386,7 +388,7 @@ module _ (octets p : List ℕ) (C : Table) (l : RequestTable) (most : ℕ)
     unfolding fixed_of
     totals_fixed stopped same =
         let may : AreTotals s.memory = may_be_again octets p C l most s in
-        let held = header_again s.memory.stopped s.memory.header s.memory.payload_count behind in
+        let held = header_again s.memory.stopped s.memory.header s.memory.payload_count empty in
         record {
           running = λ e. may.running (sym (stop_again s.memory.stopped s.memory.header
               s.memory.payload_count) ∙ sym stopped ∙ e);

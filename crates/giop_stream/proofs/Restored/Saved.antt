@@ -6,12 +6,12 @@ use Rattle.std.proofs.lemmas.List.{take_all}
 use Rattle.std.proofs.lemmas.Grind.{take_at_read}
 use Rattle.giop_message.specs.declared.message.Message.{Message}
 use Rattle.giop_checkpoint.specs.declared.record.Record.{Record}
-use Rattle.giop_checkpoint.specs.Records.{Entry, RecordHasRange, own_octets, entry_octets}
+use Rattle.giop_checkpoint.specs.Records.{StoredRecord, RecordHasRange, own_octets, stored_record_octets}
 use Rattle.giop_checkpoint.proofs.Puts.{then}
 use Rattle.giop_sig.specs.Table.{Table}
 use Rattle.giop_message.specs.MessageState.{Fits}
 use Rattle.giop_message.specs.Signatures.{RequestTable}
-use Rattle.giop_checkpoint.specs.Layouts.{layout_of, reads}
+use Rattle.giop_checkpoint.specs.Layouts.{layout_of, reads_layout}
 use Rattle.giop_checkpoint.specs.declared.layout.Layout.TheVariants.{Third, Latest}
 use Rattle.giop_checkpoint.specs.Fixed.{fixed_octets}
 use Rattle.giop_stream.specs.SlotsRepresent.{OpenEntry, current_of}
@@ -27,18 +27,20 @@ use Rattle.giop_stream.specs.EngineView.{FramingView, EngineView}
 use Rattle.giop_checkpoint.specs.declared.record.RecordKind.TheVariants as record_kinds
 use Rattle.giop_stream.proofs.Restored.LoadRanges.{few_slots}
 use Rattle.giop_stream.proofs.Restored.SavedSizes.{HasRoom, whole_long, whole_within}
-use Rattle.giop_stream.specs.Checkpoint.{counts_of, open_kind, over_kind, standing_of, IsStored, IsOpen, IsMessageRecord, IsCurrent, IsPutOne, IsPut, AreOpen, AreEntries, fixed_of, checkpoint_octets, IsPutWhole, Puts, PutsSuch, Spells, Saves}
+use Rattle.giop_stream.specs.Checkpoint.{counts_of, open_kind, over_kind, open_record_kind, StoresOrZeros, IsOpen, IsMessageRecord, IsCurrent, IsPutOne, IsPut, AreOpen, AreEntries, fixed_of, checkpoint_octets, IsPutWhole, Puts, PutsSuch, Spells, Saves}
 
-pub flat_append : (xs ys : List Entry) → flat_map entry_octets (xs ++ ys) ≡ flat_map entry_octets xs
-    ++ flat_map entry_octets ys
+pub flat_append : (xs ys : List StoredRecord) → flat_map stored_record_octets (xs ++ ys)
+    ≡ flat_map stored_record_octets xs
+    ++ flat_map stored_record_octets ys
 flat_append [] ys = refl
 flat_append (x ∷ xs) ys = search (arith, append_assoc, flat_map, flat_append xs ys)
 
-pub flat_one : (e : Entry) → flat_map entry_octets (e ∷ []) ≡ entry_octets e
-flat_one e = append-nil (entry_octets e)
+pub flat_one : (e : StoredRecord) → flat_map stored_record_octets (e ∷ []) ≡ stored_record_octets e
+flat_one e = append-nil (stored_record_octets e)
 
 -- the entries, after one more open message
-pub entries_push : (slots : List OpenEntry) (slot : OpenEntry) (es : List Entry) (e : Entry) →
+pub entries_push : (slots : List OpenEntry) (slot : OpenEntry) (es : List StoredRecord)
+    (e : StoredRecord) →
     AreOpen slots es → IsOpen slot e
     → AreOpen (slots ++ slot ∷ []) (es ++ e ∷ [])
 entries_push [] slot [] e are is = (is, tt)
@@ -47,7 +49,8 @@ entries_push (s ∷ slots) slot [] e are is = absurd are
 entries_push (s ∷ slots) slot (f ∷ es) e are is = (are.0, entries_push slots slot es e are.1 is)
 
 -- the entries, with the current message at the end
-pub entries_own : (slots : List OpenEntry) (m : Message) (es : List Entry) (e : Entry) →
+pub entries_own : (slots : List OpenEntry) (m : Message) (es : List StoredRecord) (e : StoredRecord)
+    →
     AreOpen slots es → IsCurrent m e → AreEntries slots (Some m) (es ++ e ∷ [])
 entries_own [] m [] e are is = (is, refl)
 entries_own [] m (f ∷ es) e are is = absurd are
@@ -60,11 +63,13 @@ pub put_more : (slots : List OpenEntry) (slot : OpenEntry) (before between after
 put_more slots slot before between after some one = record {
   entries = some.entries ++ one.entry ∷ [];
   are = entries_push slots slot some.entries one.entry some.are one.is;
-  put = then before between after (flat_map entry_octets some.entries) (entry_octets one.entry)
+  put = then before between after (flat_map stored_record_octets some.entries)
+      (stored_record_octets one.entry)
       some.put one.put
       ∙ ap (λ (xs : List ℕ). before ++ xs) (sym
       (flat_append some.entries (one.entry ∷ [])
-      ∙ ap (λ (xs : List ℕ). flat_map entry_octets some.entries ++ xs) (flat_one one.entry)));
+      ∙ ap (λ (xs : List ℕ). flat_map stored_record_octets some.entries ++ xs)
+      (flat_one one.entry)));
 }
 
 -- a message that is over is written as zeros, after the record's own octets
@@ -78,7 +83,7 @@ over_is slot r before between after none range few record_kind number header put
   entry = record { record_is = r; message = replicate 224 0; frames = [] };
   is = record {
     range = record { own = range; message = refl; frames = omega (arith, few) };
-    record_kind = record_kind ∙ ap (λ (m : Option Message). standing_of m slot.key) (sym none);
+    record_kind = record_kind ∙ ap (λ (m : Option Message). open_record_kind m slot.key) (sym none);
     number = number;
     header = header;
     message = stored_over slot.value.message none;
@@ -88,7 +93,7 @@ over_is slot r before between after none range few record_kind number header put
 }
   where
     stored_over : (m : Option Message) → m ≡ None →
-        IsStored m (record { record_is = r; message = replicate 224 0; frames = [] })
+        StoresOrZeros m (record { record_is = r; message = replicate 224 0; frames = [] })
     stored_over None e = (refl, refl)
     stored_over (Some m) e = absurd (let no : Some m ≡ None = e in cc)
 
@@ -100,9 +105,10 @@ pub open_is : (slot : OpenEntry) (m : Message) (before after : List ℕ) → slo
 open_is slot m before after some put = search (arith)
 
 -- an entry's three parts are written one after another
-pub kept_put : (before a b after : List ℕ) (e : Entry) → a ≡ before ++ own_octets e.record_is →
+pub kept_put : (before a b after : List ℕ) (e : StoredRecord) → a ≡ before ++ own_octets e.record_is
+    →
     b ≡ a ++ e.message
-    → after ≡ b ++ e.frames → after ≡ before ++ entry_octets e
+    → after ≡ b ++ e.frames → after ≡ before ++ stored_record_octets e
 kept_put before a b after e first second third = search (arith, then)
 
 pub ready_fits : (C : Table) (at : ℕ) (o : Option Message) (m : Message) → o ≡ Some m →
@@ -112,7 +118,7 @@ ready_fits C at (Some n) m e ready = search (arith)
 
 -- ---- the whole checkpoint
 
-abbrev pub fixed_in : Table → RequestTable → FramingView → List ℕ
+abbrev pub fixed_in : (C : Table) (request_table : RequestTable) (fields : FramingView) → List ℕ
 fixed_in C l m = fixed_octets (layout_of C.version) (fixed_of C l m)
 
 -- the fixed part is written in the layout of the table's version
@@ -138,13 +144,13 @@ whole_own C l m x fixed between after some e p one = record {
   entries = p.entries ++ one.entry ∷ [];
   are = own_some (current_of m.slots.owner) some;
   put = one.put
-      ∙ ap (λ (xs : List ℕ). xs ++ entry_octets one.entry)
-      (p.put ∙ ap (λ (xs : List ℕ). xs ++ flat_map entry_octets p.entries) e)
-      ∙ append_assoc (fixed_in C l m) (flat_map entry_octets p.entries)
-      (entry_octets one.entry)
+      ∙ ap (λ (xs : List ℕ). xs ++ stored_record_octets one.entry)
+      (p.put ∙ ap (λ (xs : List ℕ). xs ++ flat_map stored_record_octets p.entries) e)
+      ∙ append_assoc (fixed_in C l m) (flat_map stored_record_octets p.entries)
+      (stored_record_octets one.entry)
       ∙ ap (λ (xs : List ℕ). fixed_in C l m ++ xs)
       (sym (flat_append p.entries (one.entry ∷ [])
-      ∙ ap (λ (xs : List ℕ). flat_map entry_octets p.entries ++ xs) (flat_one one.entry)));
+      ∙ ap (λ (xs : List ℕ). flat_map stored_record_octets p.entries ++ xs) (flat_one one.entry)));
 }
   where
     same : (y : Message) → Some y ≡ Some x → y ≡ x
@@ -198,10 +204,10 @@ pub put_none_yet : (a : OutLog) → Puts (Ok 0) a a []
 put_none_yet a = search (arith, wrote-nil)
 
 -- a record that was composed by itself is put after others
-pub put_behind : (none front octets items : List ℕ) (Is : Entry → Type 0) → none ≡ [] →
+pub put_after : (none front octets items : List ℕ) (Is : StoredRecord → Type 0) → none ≡ [] →
     octets ≡ items → IsPutOne none items Is
     → IsPutOne front (front ++ octets) Is
-put_behind none front octets items Is e value one = search (arith)
+put_after none front octets items Is e value one = search (arith)
 
 -- the records of all the open messages
 pub puts_all : (slots : List OpenEntry) (i : ℕ) (result : Result ℕ OutFault) (before after : OutLog)
@@ -239,7 +245,7 @@ puts_stopped (Ok m) (Err i) before between after front octets n e is puts front_
 -- ---- an engine's checkpoint
 
 written_read : (version : ℕ) (new : Bool) → nat_le 3 version ≡ new →
-    reads version (cond new Latest Third) ≡ true
+    reads_layout version (cond new Latest Third) ≡ true
 written_read version true e = e
 written_read version false e = search (arith)
 

@@ -6,27 +6,27 @@ use Rattle.std.specs.List.{filter, find, list_any, AllByRecursion as Each}
 use Rattle.std.proofs.lemmas.Bool.{cases_eq, eqb-true}
 use Rattle.giop_stream.specs.declared.fault.FramingFault.{FramingFault}
 use Rattle.giop_stream.specs.declared.fault.FramingFault.TheVariants.{FragmentOrder}
-use Rattle.giop_message.specs.MessageReader.{MessageReader, IsEnding}
+use Rattle.giop_message.specs.MessageReader.{MessageReader, ClosesWithLastLine}
 use Rattle.giop_message.specs.Phases.{unbroken}
-use Rattle.giop_stream.specs.Kinds.{is_old, may_be_cancelled}
+use Rattle.giop_stream.specs.Kinds.{is_fragmented_1_1, may_be_cancelled}
 use Rattle.giop_stream.specs.Framing.{CutMessage}
-use Rattle.giop_stream.specs.Events.{EventKind, Begins, Takes, Opens, Continues, Seams, Cancelled, Faults, Closes, Before, Event, MessageKey, Now, Open, own, event_of_open, fault_events, header_events, payload_events, opens, opens_unless, taken, continues, seams, order_fault, cancel_of, pending, open_under, opener_of, key, now_of, naming_events, message_end_events, events_with_key, events_of_octet, changed, opened}
-use Rattle.giop_stream.specs.Lines.{Kept, is_last_of}
+use Rattle.giop_stream.specs.Events.{EventKind, Begins, Takes, Opens, Continues, Seams, Cancelled, Faults, Closes, OpenState, Event, MessageKey, MessageOctet, Open, own_event, event_of_open, fault_events, header_events, payload_events, opening_events, open_events_unless, already_open_fault, fragment_events, seam_events, order_fault_events, cancel_event, open_message_1_1, open_under, opener_of, key, last_octet_of, naming_events, message_end_events, events_with_key, events_of_octet, open_after_event, open_after_events}
+use Rattle.giop_stream.specs.Lines.{Kept, is_last_line_of}
 use Rattle.giop_stream.specs.OpenSlots.{Tracked}
-use Rattle.giop_stream.specs.Effects.{kept_then, known_then, lines_of, lines_for, tracked_at, effects}
+use Rattle.giop_stream.specs.Effects.{kept_after_event, message_kept_after, lines_of, lines_for, tracked_after_event, effects}
 use Rattle.giop_stream.specs.Reloading.{lacks_key, without_key}
 use Rattle.giop_stream.proofs.Lists.{each_append, each_filter}
 use Rattle.giop_stream.proofs.Events.EventsOfOctet.{quiet_if, quiet_header, quiet_octet}
-use Rattle.giop_stream.proofs.StreamLines.LastLines.{is_final, kept_final, last_stands}
+use Rattle.giop_stream.proofs.StreamLines.LastLines.{gives_last_line, kept_final, last_stands}
 use Rattle.giop_stream.proofs.SlotSteps.OneSlotChanges.{own_then, others_then}
 
 -- ---- Lists of open messages.
 
 -- each of these open messages with this number has a key
-abbrev pub IsKeyed : ℕ → List Open → Type 0
+abbrev pub IsKeyed : (i : ℕ) (still_open : List Open) → Type 0
 IsKeyed i still_open = Each (λ o. o.opener.number ≡ i → o.key ≡ None → ⊥) still_open
 
-abbrev pub keyless : List Open → ℕ
+abbrev pub keyless : (still_open : List Open) → ℕ
 keyless still_open = without_key (λ o. o.key) still_open
 
 keyless_push : (still_open : List Open) (o : Open) →
@@ -94,68 +94,80 @@ found_keyless (a ∷ still_open) o e keyed =
 -- only if none is open, and where Fragments of 1.1 are joined; and their octets are joined to a
 -- message without a key.
 
-abbrev pub May : Bool → List Open → MessageKey → EventKind → Type 0
-May joins still_open w (Opens None) = (keyless still_open ≡ 0) × (joins ≡ true)
-May joins still_open w Seams = IsKeyed w.number still_open → ⊥
-May joins still_open w what = Unit {0}
+abbrev pub IsAllowedEvent : (joins : Bool) (still_open : List Open) (key : MessageKey)
+    (what : EventKind) →
+    Type 0
+IsAllowedEvent joins still_open w (Opens None) = (keyless still_open ≡ 0) × (joins ≡ true)
+IsAllowedEvent joins still_open w Seams = IsKeyed w.number still_open → ⊥
+IsAllowedEvent joins still_open w what = Unit {0}
 
-unfoldable pub AllMay : Bool → List Open → List Event → Type 0
-AllMay joins still_open [] = Unit {0}
-AllMay joins still_open (e ∷ es) =
-    May joins still_open e.subject e.what × AllMay joins (changed still_open e.subject e.what) es
+unfoldable pub AreAllowedEvents : (joins : Bool) (still_open : List Open) (events : List Event) →
+    Type 0
+AreAllowedEvents joins still_open [] = Unit {0}
+AreAllowedEvents joins still_open (e ∷ es) =
+    IsAllowedEvent joins still_open e.subject e.what × AreAllowedEvents joins
+    (open_after_event still_open e.subject e.what) es
 
 module _ (joins : Bool) where
-  may_append : (still_open : List Open) (es more : List Event) → AllMay joins still_open es →
-      AllMay joins (opened still_open es) more → AllMay joins still_open (es ++ more)
-  unfolding opened AllMay
+  may_append : (still_open : List Open) (es more : List Event) →
+      AreAllowedEvents joins still_open es →
+      AreAllowedEvents joins (open_after_events still_open es) more →
+      AreAllowedEvents joins still_open (es ++ more)
+  unfolding open_after_events AreAllowedEvents
   may_append still_open [] more h k = k
   may_append still_open (e ∷ es) more h k =
-      (h.0, may_append (changed still_open e.subject e.what) es more h.1 k)
+      (h.0, may_append (open_after_event still_open e.subject e.what) es more h.1 k)
 
-  may_none : (still_open : List Open) → AllMay joins still_open []
-  unfolding AllMay
+  may_none : (still_open : List Open) → AreAllowedEvents joins still_open []
+  unfolding AreAllowedEvents
   may_none still_open = tt
 
-  may_own : (still_open : List Open) (now : Now) (what : EventKind) →
-      May joins still_open now.subject what → AllMay joins still_open (own now what)
-  unfolding own AllMay
+  may_own : (still_open : List Open) (now : MessageOctet) (what : EventKind) →
+      IsAllowedEvent joins still_open now.subject what →
+      AreAllowedEvents joins still_open (own_event now what)
+  unfolding own_event AreAllowedEvents
   may_own still_open now what h = (h, tt)
 
-  may_about : (still_open : List Open) (now : Now) (other : Option Open) (what : EventKind) →
-      ((o : Open) → other ≡ Some o → May joins still_open o.opener what) →
-      AllMay joins still_open (event_of_open now other what)
-  unfolding event_of_open AllMay
+  may_about : (still_open : List Open) (now : MessageOctet) (other : Option Open)
+      (what : EventKind) →
+      ((o : Open) → other ≡ Some o → IsAllowedEvent joins still_open o.opener what) →
+      AreAllowedEvents joins still_open (event_of_open now other what)
+  unfolding event_of_open AreAllowedEvents
   may_about still_open now None what h = tt
   may_about still_open now (Some o) what h = (h o refl, tt)
 
   may_if : (still_open : List Open) (b : Bool) (es more : List Event) →
-      (b ≡ true → AllMay joins still_open es) → (b ≡ false → AllMay joins still_open more) →
-      AllMay joins still_open (if b then es else more)
+      (b ≡ true → AreAllowedEvents joins still_open es) → (b ≡ false →
+      AreAllowedEvents joins still_open more) →
+      AreAllowedEvents joins still_open (if b then es else more)
   may_if still_open true es more h k = h refl
   may_if still_open false es more h k = k refl
 
-  may_fault : (still_open : List Open) (now : Now) (fault : Option FramingFault) →
-      AllMay joins still_open (fault_events now fault)
+  may_fault : (still_open : List Open) (now : MessageOctet) (fault : Option FramingFault) →
+      AreAllowedEvents joins still_open (fault_events now fault)
   may_fault still_open now None = may_none still_open
   may_fault still_open now (Some fault) = may_own still_open now (Faults fault) tt
 
-  may_header : (still_open : List Open) (now : Now) → AllMay joins still_open (header_events now)
+  may_header : (still_open : List Open) (now : MessageOctet) →
+      AreAllowedEvents joins still_open (header_events now)
   unfolding header_events
   may_header still_open now = search (arith, may_append, may_own, may_fault)
 
-  may_payload : (still_open : List Open) (now : Now) (other : Option Open) →
-      AllMay joins still_open (payload_events now other)
+  may_payload : (still_open : List Open) (now : MessageOctet) (other : Option Open) →
+      AreAllowedEvents joins still_open (payload_events now other)
   unfolding payload_events
   may_payload still_open now other = search (arith, may_if, may_about, may_own)
 
-  may_end : (still_open : List Open) (now : Now) (other : Option Open) →
-      AllMay joins still_open (message_end_events now other)
+  may_end : (still_open : List Open) (now : MessageOctet) (other : Option Open) →
+      AreAllowedEvents joins still_open (message_end_events now other)
   unfolding message_end_events
   may_end still_open now other = search (arith, may_if, may_about, may_own, may_none)
 
-  module _ (most : ℕ) (b : Before) (joined : b.mixed ≡ false → joins ≡ true) (now : Now) where
-    pending_found : (o : Open) → pending b ≡ Some o → IsKeyed o.opener.number b.still_open → ⊥
-    unfolding pending
+  module _ (most : ℕ) (b : OpenState) (joined : b.mixed ≡ false →
+      joins ≡ true) (now : MessageOctet) where
+    pending_found : (o : Open) → open_message_1_1 b ≡ Some o →
+        IsKeyed o.opener.number b.still_open → ⊥
+    unfolding open_message_1_1
     pending_found o e = go b.mixed e
       where
         go : (m : Bool) →
@@ -164,13 +176,13 @@ module _ (joins : Bool) where
         go true e = absurd cc
         go false e = found_keyless b.still_open o e
 
-    pending_none : b.mixed ≡ false → pending b ≡ None → keyless b.still_open ≡ 0
-    unfolding pending
+    pending_none : b.mixed ≡ false → open_message_1_1 b ≡ None → keyless b.still_open ≡ 0
+    unfolding open_message_1_1
     pending_none free e = none_found b.still_open (rw free at e)
 
     may_unless : (key : Option ℕ) (fault : Option FramingFault) →
-        (fault ≡ None → May joins b.still_open now.subject (Opens key)) →
-        AllMay joins b.still_open (opens_unless now key fault)
+        (fault ≡ None → IsAllowedEvent joins b.still_open now.subject (Opens key)) →
+        AreAllowedEvents joins b.still_open (open_events_unless now key fault)
     may_unless key None h = may_own b.still_open now (Opens key) (h refl)
     may_unless key (Some fault) h = may_own b.still_open now (Faults fault) tt
 
@@ -180,40 +192,41 @@ module _ (joins : Bool) where
     unmixed false rest fault e = refl
 
     may_open : (key : Option ℕ) (other : Option Open) → open_under b key ≡ other →
-        AllMay joins b.still_open (opens most b now key other)
-    may_open key (Some o) e = may_own b.still_open now (Faults (taken key)) tt
+        AreAllowedEvents joins b.still_open (opening_events most b now key other)
+    may_open key (Some o) e = may_own b.still_open now (Faults (already_open_fault key)) tt
     may_open (Some id) None e = may_unless (Some id) _ (λ free. tt)
     may_open None None e =
         may_unless None _ (λ free. let not_mixed = unmixed b.mixed _ _ free in
         (pending_none not_mixed e, joined not_mixed))
 
-    may_seam : (o : Open) → (is_old now.subject.header ≡ true → pending b ≡ Some o) →
-        AllMay joins b.still_open (seams now o)
+    may_seam : (o : Open) → (is_fragmented_1_1 now.subject.header ≡ true →
+        open_message_1_1 b ≡ Some o) →
+        AreAllowedEvents joins b.still_open (seam_events now o)
     may_seam o h =
-        may_if b.still_open (is_old now.subject.header) _ []
+        may_if b.still_open (is_fragmented_1_1 now.subject.header) _ []
         (λ old. may_about b.still_open now (Some o) Seams
         (λ a same. let is : Some o ≡ Some a = same in let e : o ≡ a = cc in
         pending_found a (h old ∙ same)))
         (λ no. may_none b.still_open)
 
     may_order : (still_open : List Open) (o : Open) →
-        AllMay joins still_open (order_fault now o)
+        AreAllowedEvents joins still_open (order_fault_events now o)
     may_order still_open o =
         may_if still_open _ [] _ (λ same. may_none still_open)
         (λ other. may_about still_open now (Some o) (Faults FragmentOrder) (λ a e. tt))
 
     may_continue : (key : Option ℕ) (other : Option Open) →
-        (is_old now.subject.header ≡ true → pending b ≡ other) →
-        AllMay joins b.still_open (continues b now key other)
-    unfolding own opened changed
+        (is_fragmented_1_1 now.subject.header ≡ true → open_message_1_1 b ≡ other) →
+        AreAllowedEvents joins b.still_open (fragment_events b now key other)
+    unfolding own_event open_after_events open_after_event
     may_continue key None h = may_own b.still_open now _ tt
     may_continue key (Some o) h =
-        may_append b.still_open (own now (Continues o.opener.number)) _
+        may_append b.still_open (own_event now (Continues o.opener.number)) _
         (may_own b.still_open now (Continues o.opener.number) tt)
-        (may_append b.still_open (seams now o) (order_fault now o) (may_seam o h)
-        (may_order (opened b.still_open (seams now o)) o))
+        (may_append b.still_open (seam_events now o) (order_fault_events now o) (may_seam o h)
+        (may_order (open_after_events b.still_open (seam_events now o)) o))
 
-    may_cancel : (o : Option Open) → AllMay joins b.still_open (cancel_of now o)
+    may_cancel : (o : Option Open) → AreAllowedEvents joins b.still_open (cancel_event now o)
     may_cancel None = may_none b.still_open
     may_cancel (Some o) =
         may_if b.still_open (may_be_cancelled o.opener.header)
@@ -222,20 +235,20 @@ module _ (joins : Bool) where
         (λ no. may_none b.still_open)
 
     module _ (key : Option ℕ) (other : Option Open) (under : open_under b key ≡ other)
-        (old : is_old now.subject.header ≡ true → key ≡ None) where
-      may_go_on : AllMay joins b.still_open (continues b now key other)
+        (old : is_fragmented_1_1 now.subject.header ≡ true → key ≡ None) where
+      may_go_on : AreAllowedEvents joins b.still_open (fragment_events b now key other)
       may_go_on = may_continue key other (λ is. ap (open_under b) (sym (old is)) ∙ under)
 
-      may_name : AllMay joins b.still_open (naming_events most b now key other)
+      may_name : AreAllowedEvents joins b.still_open (naming_events most b now key other)
       unfolding naming_events
       may_name = search (arith, may_if, may_go_on, may_open, may_cancel, may_none)
 
-      first_quiet : opened b.still_open
+      first_quiet : open_after_events b.still_open
           (if now.payload_count == 0 then header_events now else payload_events now other)
           ≡ b.still_open
       first_quiet = search (arith, quiet_if, quiet_header, quiet_octet)
 
-      may_events : AllMay joins b.still_open (events_with_key most b now key other)
+      may_events : AreAllowedEvents joins b.still_open (events_with_key most b now key other)
       unfolding events_with_key
       may_events = search (
         arith,
@@ -249,30 +262,30 @@ module _ (joins : Bool) where
         first_quiet,
       )
 
-  no_key : (m : CutMessage) → is_old m.header ≡ true → key m ≡ None
+  no_key : (m : CutMessage) → is_fragmented_1_1 m.header ≡ true → key m ≡ None
   unfolding key
   no_key m e = rw e refl
 
-  pub may_octet : (most : ℕ) (b : Before) (m : CutMessage) → (b.mixed ≡ false → joins ≡ true) →
-      AllMay joins b.still_open (events_of_octet most b m)
+  pub may_octet : (most : ℕ) (b : OpenState) (m : CutMessage) → (b.mixed ≡ false → joins ≡ true) →
+      AreAllowedEvents joins b.still_open (events_of_octet most b m)
   unfolding events_of_octet opener_of
   may_octet most b m joined =
-      may_events most b joined (now_of m) (key m) (open_under b (key m)) refl (no_key m)
+      may_events most b joined (last_octet_of m) (key m) (open_under b (key m)) refl (no_key m)
 
 -- ---- What such events keep.
 
 -- what is tracked has at most one open message without a key, which has none only where Fragments
 -- of 1.1 are joined; and they are joined to no other message
-pub record HasKeys (joins : Bool) (c : Tracked) : Type 0 where
-  pub one : keyless c.still_open ≤ 1
-  pub joined : Each (λ o. o.key ≡ None → joins ≡ true) c.still_open
-  pub whole : (i : ℕ) (kept : Kept) → c.known i ≡ Some kept → IsKeyed i c.still_open →
+pub record HasKeys (joins : Bool) (tracked : Tracked) : Type 0 where
+  pub one : keyless tracked.still_open ≤ 1
+  pub joined : Each (λ o. o.key ≡ None → joins ≡ true) tracked.still_open
+  pub whole : (i : ℕ) (kept : Kept) → tracked.known i ≡ Some kept → IsKeyed i tracked.still_open →
       kept.phase ≡ unbroken
 
 one_then : (joins : Bool) (still_open : List Open) (w : MessageKey) (what : EventKind) →
-    May joins still_open w what → keyless still_open ≤ 1 →
-    keyless (changed still_open w what) ≤ 1
-unfolding changed
+    IsAllowedEvent joins still_open w what → keyless still_open ≤ 1 →
+    keyless (open_after_event still_open w what) ≤ 1
+unfolding open_after_event
 one_then joins still_open w (Opens None) may one =
     omega (arith, may.0, keyless_push still_open (record { key = None; opener = w }))
 one_then joins still_open w (Opens (Some id)) may one =
@@ -284,9 +297,9 @@ one_then joins still_open w (Cancelled j) may one =
 one_then joins still_open w _ may one = one
 
 joined_then : (joins : Bool) (still_open : List Open) (w : MessageKey) (what : EventKind) →
-    May joins still_open w what → Each (λ o. o.key ≡ None → joins ≡ true) still_open →
-    Each (λ o. o.key ≡ None → joins ≡ true) (changed still_open w what)
-unfolding changed
+    IsAllowedEvent joins still_open w what → Each (λ o. o.key ≡ None → joins ≡ true) still_open →
+    Each (λ o. o.key ≡ None → joins ≡ true) (open_after_event still_open w what)
+unfolding open_after_event
 joined_then joins still_open w (Opens None) may h =
     each_append (λ o. o.key ≡ None → joins ≡ true) still_open _ h ((λ e. may.1), tt)
 joined_then joins still_open w (Opens (Some id)) may h =
@@ -315,8 +328,8 @@ keyed_left i still_open w apart h =
     is o e = eqb-true o.opener.number w.number (by _ e)
 
 keyed_other : (i : ℕ) (still_open : List Open) (w : MessageKey) (what : EventKind) →
-    (i ≡ w.number → ⊥) → IsKeyed i (changed still_open w what) → IsKeyed i still_open
-unfolding changed
+    (i ≡ w.number → ⊥) → IsKeyed i (open_after_event still_open w what) → IsKeyed i still_open
+unfolding open_after_event
 keyed_other i still_open w (Opens key) apart h = each_front _ still_open _ h
 keyed_other i still_open w Closes apart h = keyed_left i still_open w apart h
 keyed_other i still_open w (Cancelled j) apart h = keyed_left i still_open w apart h
@@ -324,27 +337,27 @@ keyed_other i still_open w _ apart h = h
 
 -- what was known before an event of the message
 was_known : (R : MessageReader) (e : Event) (o : Option Kept) (kept : Kept) →
-    known_then R e o ≡ Some kept →
-    (before : Kept) × (o ≡ Some before) × (kept ≡ kept_then e.what before)
-unfolding known_then
-was_known R e o kept h = go (list_any (is_last_of e.subject.number) (lines_of R e o)) o h
+    message_kept_after R e o ≡ Some kept →
+    (before : Kept) × (o ≡ Some before) × (kept ≡ kept_after_event e.what before)
+unfolding message_kept_after
+was_known R e o kept h = go (list_any (is_last_line_of e.subject.number) (lines_of R e o)) o h
   where
     go : (b : Bool) (o : Option Kept) →
-        (if b then None else option_map (kept_then e.what) o) ≡ Some kept →
-        (before : Kept) × (o ≡ Some before) × (kept ≡ kept_then e.what before)
+        (if b then None else option_map (kept_after_event e.what) o) ≡ Some kept →
+        (before : Kept) × (o ≡ Some before) × (kept ≡ kept_after_event e.what before)
     go true o h = absurd cc
     go false None h = absurd cc
     go false (Some before) h =
-        let is : Some (kept_then e.what before) ≡ Some kept = h in
-        let same : kept ≡ kept_then e.what before = cc in (before, refl, same)
+        let is : Some (kept_after_event e.what before) ≡ Some kept = h in
+        let same : kept ≡ kept_after_event e.what before = cc in (before, refl, same)
 
 -- nothing is known of a message that is closed or cancelled
-ended_none : (R : MessageReader) → IsEnding R → (e : Event) (o : Option Kept) →
-    is_final e.what ≡ true → known_then R e o ≡ None
-unfolding known_then lines_of
-ended_none R ending e None final = go (list_any (is_last_of e.subject.number) _)
+ended_none : (R : MessageReader) → ClosesWithLastLine R → (e : Event) (o : Option Kept) →
+    gives_last_line e.what ≡ true → message_kept_after R e o ≡ None
+unfolding message_kept_after lines_of
+ended_none R ending e None final = go (list_any (is_last_line_of e.subject.number) _)
   where
-    go : (b : Bool) → (if b then None else option_map (kept_then e.what) None) ≡ None
+    go : (b : Bool) → (if b then None else option_map (kept_after_event e.what) None) ≡ None
     go true = refl
     go false = refl
 ended_none R ending e (Some kept) final =
@@ -357,33 +370,36 @@ IsPlain Seams = ⊥
 IsPlain what = Unit {0}
 
 plain_phase : (what : EventKind) → IsPlain what → (before : Kept) →
-    (kept_then what before).phase ≡ before.phase
+    (kept_after_event what before).phase ≡ before.phase
 unfolding IsPlain
 plain_phase Seams plain before = absurd plain
 plain_phase _ plain before = refl
 
-module _ (R : MessageReader) (ending : IsEnding R) (joins : Bool) (c : Tracked) (e : Event)
-    (may : May joins c.still_open e.subject e.what) (h : HasKeys joins c) where
+module _ (R : MessageReader) (ending : ClosesWithLastLine R) (joins : Bool) (c : Tracked)
+    (e : Event)
+    (may : IsAllowedEvent joins c.still_open e.subject e.what) (h : HasKeys joins c) where
   -- of the message of the event, if the event isn't a seam
   plain_whole : (what : EventKind) → e.what ≡ what → IsPlain what → (kept : Kept) →
-      known_then R e (c.known e.subject.number) ≡ Some kept →
+      message_kept_after R e (c.known e.subject.number) ≡ Some kept →
       IsKeyed e.subject.number c.still_open → kept.phase ≡ unbroken
   plain_whole what is plain kept known keyed =
       let was = was_known R e (c.known e.subject.number) kept known in
       ap (λ (k : Kept). k.phase) was.2
-      ∙ (ap (λ (w : EventKind). (kept_then w was.0).phase) is
+      ∙ (ap (λ (w : EventKind). (kept_after_event w was.0).phase) is
       ∙ (plain_phase what plain was.0 ∙ h.whole e.subject.number was.0 was.1 keyed))
 
-  ended_never : is_final e.what ≡ true → (kept : Kept) →
-      known_then R e (c.known e.subject.number) ≡ Some kept → ⊥
+  ended_never : gives_last_line e.what ≡ true → (kept : Kept) →
+      message_kept_after R e (c.known e.subject.number) ≡ Some kept → ⊥
   ended_never final kept known =
       let no : None ≡ Some kept =
       sym (ended_none R ending e (c.known e.subject.number) final) ∙ known in cc
 
-  own_whole : (what : EventKind) → e.what ≡ what → May joins c.still_open e.subject what →
-      (kept : Kept) → known_then R e (c.known e.subject.number) ≡ Some kept →
-      IsKeyed e.subject.number (changed c.still_open e.subject what) → kept.phase ≡ unbroken
-  unfolding changed is_final IsPlain
+  own_whole : (what : EventKind) → e.what ≡ what → IsAllowedEvent joins c.still_open e.subject what
+      →
+      (kept : Kept) → message_kept_after R e (c.known e.subject.number) ≡ Some kept →
+      IsKeyed e.subject.number (open_after_event c.still_open e.subject what) →
+      kept.phase ≡ unbroken
+  unfolding open_after_event gives_last_line IsPlain
   own_whole Seams is may kept known keyed = absurd (may keyed)
   own_whole Closes is may kept known keyed = absurd (ended_never (rw is refl) kept known)
   own_whole (Cancelled j) is may kept known keyed = absurd (ended_never (rw is refl) kept known)
@@ -395,25 +411,25 @@ module _ (R : MessageReader) (ending : IsEnding R) (joins : Bool) (c : Tracked) 
   own_whole (Faults fault) is may kept known keyed =
       plain_whole (Faults fault) is tt kept known keyed
 
-  keys_then : HasKeys joins (tracked_at R c e)
-  unfolding tracked_at
+  keys_then : HasKeys joins (tracked_after_event R c e)
+  unfolding tracked_after_event
   keys_then = record {
     one = one_then joins c.still_open e.subject e.what may h.one;
     joined = joined_then joins c.still_open e.subject e.what may h.joined;
     whole = λ i kept known keyed. elim (cases_eq i e.subject.number) [
       | inl same ↦ own_whole e.what refl may kept
-          (sym (own_then R c e) ∙ ap (tracked_at R c e).known (sym same) ∙ known)
+          (sym (own_then R c e) ∙ ap (tracked_after_event R c e).known (sym same) ∙ known)
           (rw same at keyed)
       | inr other ↦ h.whole i kept (sym (others_then R c e i other) ∙ known)
           (keyed_other i c.still_open e.subject e.what other keyed)
     ];
   }
 
-pub keys_through : (R : MessageReader) → IsEnding R → (joins : Bool) (c : Tracked)
-    (es : List Event) → AllMay joins c.still_open es → HasKeys joins c →
+pub keys_through : (R : MessageReader) → ClosesWithLastLine R → (joins : Bool) (c : Tracked)
+    (es : List Event) → AreAllowedEvents joins c.still_open es → HasKeys joins c →
     HasKeys joins (effects R c es).tracked
-unfolding effects AllMay
+unfolding effects AreAllowedEvents
 keys_through R ending joins c [] may h = h
 keys_through R ending joins c (e ∷ es) may h =
-    keys_through R ending joins (tracked_at R c e) es (unfold tracked_at in may.1)
+    keys_through R ending joins (tracked_after_event R c e) es (unfold tracked_after_event in may.1)
     (keys_then R ending joins c e may.0 h)

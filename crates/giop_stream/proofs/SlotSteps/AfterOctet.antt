@@ -5,19 +5,19 @@ use Rattle.std.specs.Prelude.{◌==◌, ◌&&◌, if◌then◌else◌}
 use Rattle.std.proofs.lemmas.Bool.{eq-eqb, eqb-true, ne_eqb, and_parts, lt-leb, le-leb, lt-ltb, le-ltb, cases_lt, false≢true}
 use Rattle.giop_sig.specs.Table.{Table}
 use Rattle.giop_message.specs.Signatures.{Answers, signatures_of}
-use Rattle.giop_message.specs.Messages.{message, message_lines}
+use Rattle.giop_message.specs.Messages.{read_message, message_lines}
 use Rattle.giop_message.specs.ReaderOfTable.{message_reader, first_request_id}
-use Rattle.giop_message.specs.Headers.{size, has_name}
-use Rattle.giop_stream.specs.Kinds.{is_old, named_at}
+use Rattle.giop_message.specs.Headers.{size, begins_with_request_id}
+use Rattle.giop_stream.specs.Kinds.{is_fragmented_1_1, lookup_offset}
 use Rattle.giop_stream.specs.declared.slots.Slots.{Slots}
 use Rattle.giop_stream.specs.declared.current.Current.{Current}
 use Rattle.giop_stream.specs.Framing.{CutMessage}
 use Rattle.giop_stream.specs.Lines.{Kept}
-use Rattle.giop_stream.specs.Events.{MessageKey, Before, Open, id, key, message_key, has_named, goes_past, events_at_name, events_at_end}
+use Rattle.giop_stream.specs.Events.{MessageKey, OpenState, Open, id, key, message_key, is_named_fragment, has_joined_octets, events_at_name, events_at_end}
 use Rattle.giop_stream.specs.Effects.{effects, no_effect}
 use Rattle.giop_stream.specs.OpenSlots.{Tracked, IsNotOpen}
 use Rattle.giop_stream.specs.SlotsRepresent.{RepresentsMessage, SlotsRepresent, current_of}
-use Rattle.giop_stream.specs.PayloadOwner.{IsAtName, IsAfterTake, IsAtOctet, IsNewest, has_place, own_kept, before_with, owner_after_name, owner_of_octet, owner_after, name_events, end_events}
+use Rattle.giop_stream.specs.PayloadOwner.{IsAtName, IsAfterTake, IsAtOctet, IsNewest, acts_on_open, own_kept, before_with, owner_after_name, owner_of_octet, owner_after, events_if_at_name, events_if_at_end}
 use Rattle.giop_stream.specs.EngineState.{owner_of_next}
 use Rattle.giop_stream.proofs.Events.MessageKinds.{named_old, named_four}
 use Rattle.giop_stream.proofs.SlotSteps.RequestIds.{id_is_id}
@@ -33,10 +33,10 @@ both_by : (f a b : Bool) (x y : Option MessageKey) → a ≡ b →
     (if f && a then x else y) ≡ (if f && b then x else y)
 both_by f a b x y e = rw e refl
 
-pub owner_elsewhere : (b : Before) (m : CutMessage) →
-    (length m.payload == named_at m.header) ≡ false →
+pub owner_elsewhere : (b : OpenState) (m : CutMessage) →
+    (length m.payload == lookup_offset m.header) ≡ false →
     owner_of_next b m ≡ owner_of_octet b m
-unfolding owner_of_next owner_of_octet has_named goes_past
+unfolding owner_of_next owner_of_octet is_named_fragment has_joined_octets
 owner_elsewhere b m other = search (
   arith,
   both_by,
@@ -49,12 +49,12 @@ owner_elsewhere b m other = search (
   eq-eqb,
 )
 
-pub owner_at_id : (b : Before) (m : CutMessage) → length m.payload ≡ named_at m.header →
+pub owner_at_id : (b : OpenState) (m : CutMessage) → length m.payload ≡ lookup_offset m.header →
     owner_of_next b m ≡ owner_after_name b m
-unfolding owner_of_next owner_after_name has_named
+unfolding owner_of_next owner_after_name is_named_fragment
 owner_at_id b m named = search (arith, le-leb)
 
-pub owner_own : (b : Before) (m : CutMessage) → length m.payload ≤ named_at m.header →
+pub owner_own : (b : OpenState) (m : CutMessage) → length m.payload ≤ lookup_offset m.header →
     owner_of_octet b m ≡ Some (message_key m)
 unfolding owner_of_octet
 owner_own b m few = rw (not_past m few) refl
@@ -67,52 +67,56 @@ newest_apart n still_open newest = search (arith, each_weaker)
 module _ (C : Table) (l : Answers) (s : Slots) (c : Tracked) (m : CutMessage) (now : Current)
     (h : IsAfterTake C l s c m now) where
   -- whether the code takes the octet for the last one of a request id
-  abbrev At : Bool → Type 0
-  At r = ((now.payload_count == 4) && not (is_old now.header)) ≡ r
+  abbrev At : (r : Bool) → Type 0
+  At r = ((now.payload_count == 4) && not (is_fragmented_1_1 now.header)) ≡ r
 
-  new_is : At true → is_old m.header ≡ false
+  new_is : At true → is_fragmented_1_1 m.header ≡ false
   new_is e = search (arith, and_parts, h.current.header, not)
 
   four_is : At true → length m.payload ≡ 4
   four_is e = search (arith, and_parts, eqb-true)
 
-  named_is : At true → length m.payload ≡ named_at m.header
+  named_is : At true → length m.payload ≡ lookup_offset m.header
   named_is e = four_is e ∙ sym (named_four m.header (new_is e))
 
   -- if it doesn't, the message has no place at this octet of its payload
-  not_named : At false → 0 < length m.payload → (b : Bool) → is_old m.header ≡ b →
-      (length m.payload == named_at m.header) ≡ false
+  not_named : At false → 0 < length m.payload → (b : Bool) → is_fragmented_1_1 m.header ≡ b →
+      (length m.payload == lookup_offset m.header) ≡ false
   not_named e some true old =
       ne_eqb _ _ (λ k. absurd (omega (arith, some, k, named_old m.header old)))
   not_named e some false new = search (arith, named_four, h.current.header, not)
 
   pub id_here : At true →
-      name_events s.slots.most (before_with C l c) m
+      events_if_at_name s.slots.most (before_with C l c) m
       ≡ events_at_name s.slots.most (before_with C l c) m
-  unfolding name_events
+  unfolding events_if_at_name
   id_here e = search (arith, eq-eqb, named_is)
 
   pub no_id : At false → 0 < length m.payload →
-      effects (message_reader C l) c (name_events s.slots.most (before_with C l c) m) ≡ no_effect c
-  unfolding name_events
-  no_id e some = rw (not_named e some (is_old m.header) refl) (effects_none (message_reader C l) c)
+      effects (message_reader C l) c (events_if_at_name s.slots.most (before_with C l c) m)
+      ≡ no_effect c
+  unfolding events_if_at_name
+  no_id e some =
+      rw (not_named e some (is_fragmented_1_1 m.header) refl) (effects_none (message_reader C l) c)
 
-  key_new : is_old m.header ≡ false → key m ≡ Some (id m)
+  key_new : is_fragmented_1_1 m.header ≡ false → key m ≡ Some (id m)
   unfolding key
   key_new new = rw new refl
 
-  place_new : is_old m.header ≡ false → has_place m.header ≡ true → has_name m.header ≡ true
-  place_new new place = sym (or_nothing (has_name m.header) (is_old m.header) new) ∙ place
+  place_new : is_fragmented_1_1 m.header ≡ false → acts_on_open m.header ≡ true →
+      begins_with_request_id m.header ≡ true
+  place_new new place = sym (or_nothing (begins_with_request_id m.header)
+      (is_fragmented_1_1 m.header) new) ∙ place
 
   -- the request id that is read from the octets of the message itself
   pub named_here : (i : ℕ) → ((w : MessageKey) (kept : Kept) (j : ℕ) →
       RepresentsMessage C l (current_of s.owner) w (Some kept)
-      → first_request_id (message_lines (message (signatures_of C (l w.number) kept.phase)
+      → first_request_id (message_lines (read_message (signatures_of C (l w.number) kept.phase)
       w.header kept.octets))
       ≡ Some j → i ≡ j) → At true → IsAtName C l s c m now (Some i)
   named_here i f e =
       let named = named_is e in
-      let few : length m.payload ≤ named_at m.header = omega (arith, named) in
+      let few : length m.payload ≤ lookup_offset m.header = omega (arith, named) in
       let apart = newest_apart m.number c.still_open (h.newest named) in
       let keeps : SlotsRepresent C l s c (Some (message_key m)) =
       rw (owner_own (before_with C l c) m few) at h.keeps in
@@ -135,7 +139,7 @@ module _ (C : Table) (l : Answers) (s : Slots) (c : Tracked) (m : CutMessage) (n
   pub owner_still : At false → 0 < length m.payload →
       owner_of_next (before_with C l c) m ≡ owner_of_octet (before_with C l c) m
   owner_still e some =
-      owner_elsewhere (before_with C l c) m (not_named e some (is_old m.header) refl)
+      owner_elsewhere (before_with C l c) m (not_named e some (is_fragmented_1_1 m.header) refl)
 
 module _ (C : Table) (l : Answers) (s : Slots) (c : Tracked) (m : CutMessage) (now : Current)
     (h : IsAtOctet C l s c m now) (payload_count : length m.payload ≡ now.payload_count) where
@@ -143,8 +147,8 @@ module _ (C : Table) (l : Answers) (s : Slots) (c : Tracked) (m : CutMessage) (n
   last_is e = search (arith, eqb-true)
 
   pub end_here : (now.payload_count == size now.header) ≡ true →
-      end_events (before_with C l c) m ≡ events_at_end (before_with C l c) m
-  unfolding end_events
+      events_if_at_end (before_with C l c) m ≡ events_at_end (before_with C l c) m
+  unfolding events_if_at_end
   end_here e = search (arith, eq-eqb, last_is)
 
   pub after_here : (now.payload_count == size now.header) ≡ true →
@@ -153,8 +157,8 @@ module _ (C : Table) (l : Answers) (s : Slots) (c : Tracked) (m : CutMessage) (n
   after_here e = search (arith, eq-eqb, last_is)
 
   pub no_end : (now.payload_count == size now.header) ≡ false →
-      effects (message_reader C l) c (end_events (before_with C l c) m) ≡ no_effect c
-  unfolding end_events
+      effects (message_reader C l) c (events_if_at_end (before_with C l c) m) ≡ no_effect c
+  unfolding events_if_at_end
   no_end e = search (arith, effects_none)
 
   pub after_still : (now.payload_count == size now.header) ≡ false →

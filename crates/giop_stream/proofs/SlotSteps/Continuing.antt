@@ -8,12 +8,12 @@ use Rattle.giop_cdr.specs.declared.order.Order.{Order}
 use Rattle.giop_cdr.specs.Numbers.{num}
 use Rattle.giop_sig.specs.Table.{Table}
 use Rattle.giop_message.specs.Headers.{order}
-use Rattle.giop_stream.specs.Kinds.{is_old, is_any_fragment, named_at}
-use Rattle.giop_message.specs.MessageReader.{Value, due}
+use Rattle.giop_stream.specs.Kinds.{is_fragmented_1_1, is_any_fragment, lookup_offset}
+use Rattle.giop_message.specs.MessageReader.{Value, next_lines}
 use Rattle.giop_message.specs.Signatures.{Answers}
 use Rattle.giop_message.specs.ReaderOfTable.{message_reader}
 use Rattle.giop_message.specs.Text.{numbered_line}
-use Rattle.giop_message.specs.RequestId.{request_id_text, request_id_said}
+use Rattle.giop_message.specs.RequestId.{request_id_text, request_id_timed_line}
 use Rattle.giop_message.proofs.MessageLaws.{few_said, four_said}
 use Rattle.giop_print.specs.Lines.{continues_line}
 use Rattle.giop_print.specs.Output.{OutLog}
@@ -24,13 +24,13 @@ use Rattle.giop_stream.specs.declared.fragment.Continuation.{Continuation}
 use Rattle.giop_stream.specs.Rules.{Rules, rules_by}
 use Rattle.giop_stream.specs.Framing.{CutMessage, with_payload}
 use Rattle.giop_stream.specs.Text.{line_text, start_line}
-use Rattle.giop_stream.specs.Events.{MessageKey, Before, Takes, Seams, Faults, Open, message_key, id, key, open_under, opener_of, Rising, events_at_name, same_order}
+use Rattle.giop_stream.specs.Events.{MessageKey, OpenState, Takes, Seams, Faults, Open, message_key, id, key, open_under, opener_of, NumbersRise, events_at_name, same_order}
 use Rattle.giop_stream.specs.Lines.{StreamLine, Kept, Said}
 use Rattle.giop_stream.specs.Stream.{fault_count}
-use Rattle.giop_stream.specs.Effects.{Effect, effects, then_effect, one_effect, no_effect, line_effect, goes_on, starts, with_octet, tracked_at, lines_of, event, effect_to}
+use Rattle.giop_stream.specs.Effects.{Effect, effects, then_effect, one_effect, no_effect, line_effect, continues_line_of, start_line_of, with_octet, tracked_after_event, lines_of, event, effect_to}
 use Rattle.giop_stream.specs.OpenSlots.{Tracked, IsNotOpen, slots_at}
 use Rattle.giop_stream.specs.SlotsRepresent.{SlotsRepresent}
-use Rattle.giop_stream.specs.PayloadOwner.{IsAtName, IsAtOctet, SaysId, before_with, own_kept, octet_effect, owner_after, name_events}
+use Rattle.giop_stream.specs.PayloadOwner.{IsAtName, IsAtOctet, BeginsWithRequestId, before_with, own_kept, octet_effect, owner_after, events_if_at_name}
 use Rattle.giop_stream.specs.EngineState.{opener_key, owner_of_next}
 use Rattle.giop_stream.specs.DoesEffect.{DoesEffect}
 use Rattle.giop_stream.specs.Continuation.{IsContinuing, IsBeforeContinuation}
@@ -41,7 +41,7 @@ use Rattle.giop_stream.proofs.SlotSteps.Cases.{seam_effect, seam_is, seam_none, 
 use Rattle.giop_stream.proofs.SlotSteps.EventsInSlots.{slots_stay}
 use Rattle.giop_stream.proofs.SlotSteps.OneSlotChanges.{mixes_not, mixed_same}
 use Rattle.giop_stream.proofs.SlotSteps.FindingOpen.{OpenAt, one_open}
-use Rattle.giop_stream.proofs.SlotSteps.ReadingEffects.{due_of, take_lines, reader_lines}
+use Rattle.giop_stream.proofs.SlotSteps.ReadingEffects.{next_lines_of, take_lines, reader_lines}
 use Rattle.giop_stream.proofs.SlotSteps.Ending.{owner_early}
 use Rattle.giop_stream.proofs.SlotSteps.AfterOctet.{owner_at_id}
 use Rattle.giop_stream.proofs.SlotSteps.AtRequestId.{fragment_named, fragment_placed, owner_fragment}
@@ -50,7 +50,7 @@ use Rattle.giop_stream.proofs.SlotSteps.Parts.{first, second, third, first_still
 -- ---- At the request id.
 
 pub goes_faults : (m : CutMessage) (o : Open) (ls : List StreamLine) →
-    fault_count (goes_on m o ∷ ls) ≡ fault_count ls
+    fault_count (continues_line_of m o ∷ ls) ≡ fault_count ls
 unfolding fault_count
 goes_faults m o ls = refl
 
@@ -67,20 +67,21 @@ continuing C l s c m now i h f = record {
 
 module _ (C : Table) (l : Answers) (s : Slots) (c : Tracked) (owner : Option MessageKey)
     (m : CutMessage) (now : Current) (h : IsContinuing C l s c owner m now) where
-  abbrev b : Before
+  abbrev b : OpenState
   b = before_with C l c
 
   pub in_order : (o : Open) → is_any_fragment m.header ≡ true → opener_of b m ≡ Some o →
       same_order (order m.header) (order o.opener.header) ≡ true
       → effects (message_reader C l) c (events_at_name s.slots.most b m)
-      ≡ line_effect (goes_on m o) (no_effect (seam_effect (message_reader C l) c m o).tracked)
+      ≡ line_effect (continues_line_of m o) (no_effect (seam_effect
+      (message_reader C l) c m o).tracked)
   in_order o f e same =
       fragment_in_order (rules_by C l s.slots.most) c b m o h.alive.0 f e h.alive.1 same
 
   pub out_of_order : (o : Open) → is_any_fragment m.header ≡ true → opener_of b m ≡ Some o →
       same_order (order m.header) (order o.opener.header) ≡ false
       → effects (message_reader C l) c (events_at_name s.slots.most b m)
-      ≡ line_effect (goes_on m o) (one_effect (message_reader C l)
+      ≡ line_effect (continues_line_of m o) (one_effect (message_reader C l)
       (seam_effect (message_reader C l) c m o).tracked now.place o.opener (Faults FragmentOrder))
   out_of_order o f e other =
       fragment_out_of_order (rules_by C l s.slots.most) c b m o h.alive.0 f e h.alive.1 other
@@ -88,17 +89,17 @@ module _ (C : Table) (l : Answers) (s : Slots) (c : Tracked) (owner : Option Mes
 
   -- the line of a Fragment, as the code writes it
   pub goes_text : (o : Open) (number : ℕ) → o.opener.number ≡ number →
-      line_text (goes_on m o) ≡ continues_line now.number number
+      line_text (continues_line_of m o) ≡ continues_line now.number number
   goes_text o number e = rw (h.current.number, e) refl
 
   -- the line of the Fragment is the first of the lines
   pub goes_first : (o : Open) → is_any_fragment m.header ≡ true → opener_of b m ≡ Some o
-      → BeginsSo (goes_on m o) (effects (message_reader C l) c
+      → BeginsSo (continues_line_of m o) (effects (message_reader C l) c
       (events_at_name s.slots.most b m)).lines
   goes_first o f e = go (same_order (order m.header) (order o.opener.header)) refl
     where
       go : (same : Bool) → same_order (order m.header) (order o.opener.header) ≡ same →
-          BeginsSo (goes_on m o) (effects (message_reader C l) c
+          BeginsSo (continues_line_of m o) (effects (message_reader C l) c
           (events_at_name s.slots.most b m)).lines
       go true same = record {
         more = _;
@@ -115,26 +116,26 @@ module _ (C : Table) (l : Answers) (s : Slots) (c : Tracked) (owner : Option Mes
   header_of says r e = search (arith, h.current.header)
 
   -- as the code makes it
-  pub seam_here : (o : Open) → (if is_old now.header
+  pub seam_here : (o : Open) → (if is_fragmented_1_1 now.header
       then (effect_to C l now.place c (Some o.opener) Seams).tracked else c)
       ≡ (seam_effect (message_reader C l) c m o).tracked
-  seam_here o = go (is_old now.header) refl
+  seam_here o = go (is_fragmented_1_1 now.header) refl
     where
-      go : (old : Bool) → old ≡ is_old now.header → (if old
+      go : (old : Bool) → old ≡ is_fragmented_1_1 now.header → (if old
           then (effect_to C l now.place c (Some o.opener) Seams).tracked else c)
           ≡ (seam_effect (message_reader C l) c m o).tracked
       go true e =
           let same : seam_effect (message_reader C l) c m o
           ≡ effect_to C l now.place c (Some o.opener) Seams =
-          seam_is (message_reader C l) c m o (header_of is_old true e)
+          seam_is (message_reader C l) c m o (header_of is_fragmented_1_1 true e)
           ∙ rw h.current.place refl in
           ap (λ (p : Effect). p.tracked) (sym same)
       go false e = ap (λ (p : Effect). p.tracked)
-          (sym (seam_none (message_reader C l) c m o (header_of is_old false e)))
+          (sym (seam_none (message_reader C l) c m o (header_of is_fragmented_1_1 false e)))
 
   -- a seam opens and closes nothing
   pub seam_rising : (o : Open) →
-      Rising (seam_effect (message_reader C l) c m o).tracked.still_open
+      NumbersRise (seam_effect (message_reader C l) c m o).tracked.still_open
   seam_rising o = rw (seam_still_open (message_reader C l) c m o) h.rising
 
   pub orders : (o : Open) (a b : Order) (header : List ℕ) (r : Bool) → a ≡ order now.header →
@@ -145,27 +146,28 @@ module _ (C : Table) (l : Answers) (s : Slots) (c : Tracked) (owner : Option Mes
 
 -- ---- The lines of a request id's octets.
 
-module _ (C : Table) (l : Answers) (number : ℕ) (header : List ℕ) (says : SaysId header)
+module _ (C : Table) (l : Answers) (number : ℕ) (header : List ℕ)
+    (says : BeginsWithRequestId header)
     (kept : Kept) (twelve : kept.phase 12 ≡ 12) where
   even : kept.phase 12 % 4 ≡ 0
   even = rw twelve refl
 
   -- the octets before the last one add no line
   pub few_due : (x : ℕ) → length kept.octets < 3 →
-      due (message_reader C l) kept.phase number header kept.octets x ≡ []
+      next_lines (message_reader C l) kept.phase number header kept.octets x ≡ []
   few_due x few =
       rw (few_said C l kept.phase number header says.0 says.1 says.2 even (kept.octets ++ x ∷ [])
       (omega (arith, few, length_push kept.octets x))) refl
 
   -- the last octet adds the line of the number that the octets spell
   pub four_due : (x : ℕ) → length kept.octets ≡ 3
-      → due (message_reader C l) kept.phase number header kept.octets x
-      ≡ request_id_said (num (order header) (take 4 (kept.octets ++ x ∷ []))) ∷ []
+      → next_lines (message_reader C l) kept.phase number header kept.octets x
+      ≡ request_id_timed_line (num (order header) (take 4 (kept.octets ++ x ∷ []))) ∷ []
   four_due x three = go kept.octets three
     where
       go : (xs : List ℕ) → length xs ≡ 3
-          → due (message_reader C l) kept.phase number header xs x
-          ≡ request_id_said (num (order header) (take 4 (xs ++ x ∷ []))) ∷ []
+          → next_lines (message_reader C l) kept.phase number header xs x
+          ≡ request_id_timed_line (num (order header) (take 4 (xs ++ x ∷ []))) ∷ []
       go (a ∷ b ∷ c ∷ []) e =
           rw (four_said C l kept.phase number header says.0 says.1 says.2 even a b c x) refl
       go [] e = absurd (omega (arith, e))
@@ -174,7 +176,7 @@ module _ (C : Table) (l : Answers) (number : ℕ) (header : List ℕ) (says : Sa
       go (a ∷ b ∷ c ∷ d ∷ xs) e = absurd (omega (arith, e))
 
 -- the line of a request id
-abbrev pub id_line : ℕ → ℕ → ℕ → StreamLine
+abbrev pub id_line : (at number i : ℕ) → StreamLine
 id_line at number i = record {
   place = at;
   number = number;
@@ -211,13 +213,13 @@ module _ (C : Table) (l : Answers) (s : Slots) (c : Tracked) (m : CutMessage) (n
   c' = (first R c m').tracked
 
   -- a Fragment of 1.2 has its place after its request id
-  four : named_at m.header ≡ 4
+  four : lookup_offset m.header ≡ 4
   four = fragment_four m.header h.fragment
 
-  named : length m'.payload ≡ named_at m'.header
+  named : length m'.payload ≡ lookup_offset m'.header
   named = omega (arith, four, h.three, length_push m.payload x)
 
-  few : length m.payload < named_at m.header
+  few : length m.payload < lookup_offset m.header
   few = omega (arith, four, h.three)
 
   any : is_any_fragment m.header ≡ true
@@ -239,7 +241,8 @@ module _ (C : Table) (l : Answers) (s : Slots) (c : Tracked) (m : CutMessage) (n
   pub first_lines : (first R c m').lines ≡ id_line now.place m.number found.id ∷ []
   unfolding id
   first_lines =
-      let said : due_of C l (message_key m) (own_kept m) x ≡ request_id_said found.id ∷ [] =
+      let said : next_lines_of C l (message_key m) (own_kept m) x ≡ request_id_timed_line found.id
+      ∷ [] =
       four_due C l m.number m.header (h.before.says (fragment_named m.header h.fragment))
       (own_kept m) refl x h.three ∙ rw h.spells refl in
       ap (λ (p : Effect). p.lines) taken
@@ -251,7 +254,7 @@ module _ (C : Table) (l : Answers) (s : Slots) (c : Tracked) (m : CutMessage) (n
   keeps =
       let e = event now.place (message_key m) (Takes x) in
       subst (λ (p : Effect). SlotsRepresent C l s p.tracked None) (sym taken)
-      (owned_by_none C l s c (tracked_at (message_reader C l) c e)
+      (owned_by_none C l s c (tracked_after_event (message_reader C l) c e)
       (slots_stay (message_reader C l) c e refl apart)
       (mixed_same (message_reader C l) c e (mixes_not e refl)) h.keeps)
 
@@ -267,7 +270,7 @@ module _ (C : Table) (l : Answers) (s : Slots) (c : Tracked) (m : CutMessage) (n
   }
 
   -- what stands before the events of the place
-  abbrev pub b' : Before
+  abbrev pub b' : OpenState
   b' = before_with C l c'
 
   pub opener_at : OpenAt c' (open_under b' (Some found.id)) found.index
@@ -280,19 +283,19 @@ module _ (C : Table) (l : Answers) (s : Slots) (c : Tracked) (m : CutMessage) (n
   pub any' : is_any_fragment m'.header ≡ true
   any' = any
 
-  pub ids_are : name_events s.slots.most b' m' ≡ events_at_name s.slots.most b' m'
-  unfolding name_events
+  pub ids_are : events_if_at_name s.slots.most b' m' ≡ events_at_name s.slots.most b' m'
+  unfolding events_if_at_name
   ids_are = search (arith, eq-eqb, named)
 
   -- after this octet, the octets belong to the message that the Fragment continues
   owner_is : owner_of_next b' m' ≡ Some opener_at.o.opener
   owner_is = owner_at_id b' m' named ∙ (owner_fragment b' m' any ∙ ap opener_key opener_is)
 
-  pub behind_id : (s' : Slots) → SlotsRepresent C l s' (second R c m').tracked
+  pub after_id : (s' : Slots) → SlotsRepresent C l s' (second R c m').tracked
       (Some opener_at.o.opener) → IsAtOctet C l s' (second R c m').tracked m' now
-  behind_id s' k = search (arith, after_second, owner_is)
+  after_id s' k = search (arith, after_second, owner_is)
 
-  pub starts_text : line_text (starts (with_payload m [])) ≡ start_line now.number now.header
+  pub starts_text : line_text (start_line_of (with_payload m [])) ≡ start_line now.number now.header
   starts_text = search (arith)
 
   pub said_text : line_text (id_line now.place m.number found.id)
@@ -301,8 +304,8 @@ module _ (C : Table) (l : Answers) (s : Slots) (c : Tracked) (m : CutMessage) (n
 
   -- ---- What the octets do.
 
-  abbrev pub rest_lines : List StreamLine
-  rest_lines = (second R c m').lines ++ (third R c m').lines
+  abbrev pub lines_after_id : List StreamLine
+  lines_after_id = (second R c m').lines ++ (third R c m').lines
 
   parts : octet_effect C l s.slots.most c m'
       ≡ then_effect (first R c m') (then_effect (second R c m') (third R c m'))
@@ -311,7 +314,7 @@ module _ (C : Table) (l : Answers) (s : Slots) (c : Tracked) (m : CutMessage) (n
 
   -- the line of the request id is the first line of the id's last octet
   pub all_lines : (octet_effect C l s.slots.most c m').lines
-      ≡ id_line now.place m.number found.id ∷ rest_lines
+      ≡ id_line now.place m.number found.id ∷ lines_after_id
   all_lines = search (arith, parts, first_lines)
 
   -- what the code does at the request id, and after it

@@ -10,8 +10,8 @@ use Rattle.giop_stream.specs.declared.fault.FramingFault.TheVariants.{Short}
 use Rattle.giop_stream.specs.declared.slots.Slots.{Slots}
 use Rattle.giop_stream.specs.declared.current.Current.{Current}
 use Rattle.giop_stream.specs.Framing.{CutMessage}
-use Rattle.giop_stream.specs.Kinds.{is_any_fragment, named_at, is_short, is_followed}
-use Rattle.giop_stream.specs.Events.{Before, Open, Event, Closes, Faults, message_key, opener_of, has_named, own, event_of_open, events_at_end, now_of, message_end_events}
+use Rattle.giop_stream.specs.Kinds.{is_any_fragment, lookup_offset, is_too_short_for_id, is_continued}
+use Rattle.giop_stream.specs.Events.{OpenState, Open, Event, Closes, Faults, message_key, opener_of, is_named_fragment, own_event, event_of_open, events_at_end, last_octet_of, message_end_events}
 use Rattle.giop_stream.specs.Effects.{effects, one_effect, no_effect, effect_to}
 use Rattle.giop_stream.specs.OpenSlots.{Tracked}
 use Rattle.giop_stream.specs.PayloadOwner.{IsAtOctet, before_with}
@@ -21,20 +21,20 @@ use Rattle.giop_stream.proofs.SlotSteps.Cases.{effects_none, effects_own, effect
 
 -- ---- The owner of the octets.
 
-pub owner_early : (b : Before) (m : CutMessage) → length m.payload < named_at m.header →
+pub owner_early : (b : OpenState) (m : CutMessage) → length m.payload < lookup_offset m.header →
     owner_of_next b m ≡ Some (message_key m)
-unfolding owner_of_next has_named
+unfolding owner_of_next is_named_fragment
 owner_early b m few = search (arith, lt-leb)
 
-pub owner_plain : (b : Before) (m : CutMessage) → is_any_fragment m.header ≡ false →
+pub owner_plain : (b : OpenState) (m : CutMessage) → is_any_fragment m.header ≡ false →
     owner_of_next b m ≡ Some (message_key m)
-unfolding owner_of_next has_named
+unfolding owner_of_next is_named_fragment
 owner_plain b m f = rw f refl
 
-pub owner_passed : (b : Before) (m : CutMessage) → is_any_fragment m.header ≡ true →
-    named_at m.header ≤ length m.payload →
+pub owner_passed : (b : OpenState) (m : CutMessage) → is_any_fragment m.header ≡ true →
+    lookup_offset m.header ≤ length m.payload →
     owner_of_next b m ≡ opener_key (opener_of b m)
-unfolding owner_of_next has_named
+unfolding owner_of_next is_named_fragment
 owner_passed b m f many = search (arith, le-leb)
 
 -- ---- The cases of the last octet.
@@ -58,41 +58,41 @@ module _ (C : Table) (l : Answers) (s : Slots) (c : Tracked) (m : CutMessage) (n
   header_at : (says : List ℕ → Bool) (r : Bool) → r ≡ says now.header → says m.header ≡ r
   header_at says r e = search (arith)
 
-  pub ends_short : true ≡ is_short now.header
+  pub ends_short : true ≡ is_too_short_for_id now.header
       → effects (message_reader C l) c (events_at_end (before_with C l c) m)
       ≡ one_effect (message_reader C l) c now.place (message_key m) (Faults Short)
   unfolding message_end_events
   ends_short e = search (arith, header_at, effects_own)
 
-  pub own_short : true ≡ is_short now.header → length m.payload ≡ size m.header →
+  pub own_short : true ≡ is_too_short_for_id now.header → length m.payload ≡ size m.header →
       owner_of_next (before_with C l c) m ≡ Some (message_key m)
   own_short e last =
-      let short = header_at is_short true e in
+      let short = header_at is_too_short_for_id true e in
       owner_early (before_with C l c) m (omega (arith, last, short_before m.header short))
 
-  pub ends_followed : false ≡ is_short now.header → true ≡ is_followed now.header →
+  pub ends_followed : false ≡ is_too_short_for_id now.header → true ≡ is_continued now.header →
       effects (message_reader C l) c (events_at_end (before_with C l c) m) ≡ no_effect c
-  unfolding message_end_events is_followed
+  unfolding message_end_events is_continued
   ends_followed e k = search (arith, header_at, followed_by, effects_none)
 
-  ends_last : false ≡ is_short now.header → false ≡ is_followed now.header
+  ends_last : false ≡ is_too_short_for_id now.header → false ≡ is_continued now.header
       → events_at_end (before_with C l c) m ≡ (if is_any_fragment m.header
-      then event_of_open (now_of m) (opener_of (before_with C l c) m) Closes
-      else own (now_of m) Closes)
-  unfolding message_end_events is_followed
+      then event_of_open (last_octet_of m) (opener_of (before_with C l c) m) Closes
+      else own_event (last_octet_of m) Closes)
+  unfolding message_end_events is_continued
   ends_last e k = search (arith, header_at, last_by)
 
-  long_enough : false ≡ is_short now.header → is_any_fragment m.header ≡ true →
-      length m.payload ≡ size m.header → named_at m.header ≤ length m.payload
+  long_enough : false ≡ is_too_short_for_id now.header → is_any_fragment m.header ≡ true →
+      length m.payload ≡ size m.header → lookup_offset m.header ≤ length m.payload
   long_enough e f last =
-      omega (arith, last, fragment_long m.header f (header_at is_short false e))
+      omega (arith, last, fragment_long m.header f (header_at is_too_short_for_id false e))
 
   about_does : (r : Option Open) → effects (message_reader C l) c
-      (event_of_open (now_of m) r Closes) ≡ effect_to C l now.place c (opener_key r) Closes
+      (event_of_open (last_octet_of m) r Closes) ≡ effect_to C l now.place c (opener_key r) Closes
   about_does None = search (arith, effects_nobody)
   about_does (Some o) = search (arith, effects_about)
 
-  pub ends_closed : false ≡ is_short now.header → false ≡ is_followed now.header →
+  pub ends_closed : false ≡ is_too_short_for_id now.header → false ≡ is_continued now.header →
       length m.payload ≡ size m.header
       → effects (message_reader C l) c (events_at_end (before_with C l c) m)
       ≡ effect_to C l now.place c (owner_of_next (before_with C l c) m) Closes

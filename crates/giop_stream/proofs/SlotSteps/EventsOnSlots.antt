@@ -15,13 +15,13 @@ use Rattle.giop_sig.specs.Table.{Table}
 use Rattle.giop_message.specs.Signatures.{Answers}
 use Rattle.giop_message.specs.ReaderOfTable.{message_reader}
 use Rattle.giop_print.specs.Output.{OutLog}
-use Rattle.giop_stream.specs.Events.{MessageKey, Open, EventKind, Takes, Opens, Seams, Faults, Cancelled, Closes, is_id, octet, refuses, mixes, changed, Rising}
+use Rattle.giop_stream.specs.Events.{MessageKey, Open, EventKind, Takes, Opens, Seams, Faults, Cancelled, Closes, is_same_id, octets_of_event, is_opening_fault, ends_joining, open_after_event, NumbersRise}
 use Rattle.giop_stream.specs.Lines.{Kept, lines_of_event, up_to_last_line}
-use Rattle.giop_stream.specs.OpenSlots.{Slot, slots_of, Tracked, IsNotOpen, asked_in}
+use Rattle.giop_stream.specs.OpenSlots.{Slot, slots_of, Tracked, IsNotOpen, given_id}
 use Rattle.giop_stream.specs.Rules.{asks_by}
-use Rattle.giop_stream.specs.Effects.{Effect, Part, part_of, tracked_at, lines_of, known_then, one_effect, lines_for, event, effect_to}
+use Rattle.giop_stream.specs.Effects.{Effect, MessageEffect, message_effect, tracked_after_event, lines_of, message_kept_after, one_effect, lines_for, event, effect_to}
 use Rattle.giop_stream.specs.SlotsRepresent.{RepresentsMessage, IsSlot, AreSlots, PayloadBelongs, SlotsRepresent, index_of, current_of}
-use Rattle.giop_stream.specs.DoesEffect.{DoesEffect, DoesPart, WritesLines}
+use Rattle.giop_stream.specs.DoesEffect.{DoesEffect, DoesMessageEffect, WritesLines}
 use Rattle.giop_stream.proofs.Lists.{each_weaker, each_filter, filter_keeps}
 use Rattle.giop_stream.proofs.SlotSteps.Performing.{performs_on}
 use Rattle.giop_stream.proofs.SlotSteps.ReadingEffects.{over_lines}
@@ -34,53 +34,54 @@ no_key = record { number = 0; header = [] }
 
 -- ---- An event that opens and closes nothing.
 
-abbrev pub IsStill : EventKind → Type 0
-IsStill what = (still_open : List Open) (subject : MessageKey) →
-    changed still_open subject what ≡ still_open
+abbrev pub LeavesOpenList : (what : EventKind) → Type 0
+LeavesOpenList what = (still_open : List Open) (subject : MessageKey) →
+    open_after_event still_open subject what ≡ still_open
 
-pub still_takes : (x : ℕ) → IsStill (Takes x)
-unfolding changed
+pub still_takes : (x : ℕ) → LeavesOpenList (Takes x)
+unfolding open_after_event
 still_takes x still_open subject = refl
 
-pub still_faulted : (fault : FramingFault) → IsStill (Faults fault)
-unfolding changed
+pub still_faulted : (fault : FramingFault) → LeavesOpenList (Faults fault)
+unfolding open_after_event
 still_faulted fault still_open subject = refl
 
-pub still_seams : IsStill Seams
-unfolding changed
+pub still_seams : LeavesOpenList Seams
+unfolding open_after_event
 still_seams still_open subject = refl
 
 -- the message w is open, at index k of the slots
-record Place (c : Tracked) (w : MessageKey) (k : ℕ) : Type 0 where
+record IsOpenAtIndex (tracked : Tracked) (key : MessageKey) (k : ℕ) : Type 0 where
   slot : Open
-  here : slice_get c.still_open k ≡ Some slot
-  is : slot.opener ≡ w
+  here : slice_get tracked.still_open k ≡ Some slot
+  is : slot.opener ≡ key
 
 -- The owner isn't an open message, and this is what the code keeps of it.
-abbrev pub IsItself : PayloadOwner → Option Message → Type 0
-IsItself of message = (index_of of ≡ None) × (current_of of ≡ message)
+abbrev pub IsCurrentMessage : (payload_owner : PayloadOwner) (message : Option Message) → Type 0
+IsCurrentMessage of message = (index_of of ≡ None) × (current_of of ≡ message)
 
 -- The effect changes one message, as this part says, and no other message.
-pub record Alters (c : Tracked) (w : MessageKey) (effect : Effect) (part : Part) : Type 0 where
+pub record ChangesOneMessage (c : Tracked) (key : MessageKey) (effect : Effect)
+    (part : MessageEffect) : Type 0 where
   pub lines : effect.lines ≡ part.lines
   pub still_open : effect.tracked.still_open ≡ c.still_open
   pub mixed : effect.tracked.mixed ≡ c.mixed
-  pub own : effect.tracked.known w.number ≡ part.kept
-  pub others : (i : ℕ) → (i ≡ w.number → ⊥) → effect.tracked.known i ≡ c.known i
+  pub own : effect.tracked.known key.number ≡ part.kept
+  pub others : (i : ℕ) → (i ≡ key.number → ⊥) → effect.tracked.known i ≡ c.known i
 
 -- ---- An open message is removed.
 
-abbrev pub IsGone : EventKind → Type 0
-IsGone what = (still_open : List Open) (subject : MessageKey) →
-    changed still_open subject what ≡ filter (λ o. not (o.opener.number == subject.number))
+abbrev pub RemovesFromOpen : (what : EventKind) → Type 0
+RemovesFromOpen what = (still_open : List Open) (subject : MessageKey) →
+    open_after_event still_open subject what ≡ filter (λ o. not (o.opener.number == subject.number))
     still_open
 
-pub gone_closes : IsGone Closes
-unfolding changed
+pub gone_closes : RemovesFromOpen Closes
+unfolding open_after_event
 gone_closes still_open subject = refl
 
-pub gone_cancelled : (j : ℕ) → IsGone (Cancelled j)
-unfolding changed
+pub gone_cancelled : (j : ℕ) → RemovesFromOpen (Cancelled j)
+unfolding open_after_event
 gone_cancelled j still_open subject = refl
 
 none_there : (still_open : List Open) (n : ℕ) → Each (λ o. o.opener.number ≡ n → ⊥) still_open →
@@ -90,16 +91,17 @@ none_there still_open n h = search (arith, filter_keeps, not, each_weaker, ne_eq
 -- ---- An open message is cancelled by the current one.
 
 module _ (C : Table) (l : Answers) where
-  still_open_is : (at : ℕ) (c : Tracked) (w : MessageKey) (what : EventKind) → IsStill what →
-      (tracked_at (message_reader C l) c (event at w what)).still_open ≡ c.still_open
-  unfolding tracked_at
+  still_open_is : (at : ℕ) (c : Tracked) (w : MessageKey) (what : EventKind) → LeavesOpenList what →
+      (tracked_after_event (message_reader C l) c (event at w what)).still_open ≡ c.still_open
+  unfolding tracked_after_event
   still_open_is at c w what still = still c.still_open w
 
-  pub still_alters : (at : ℕ) (c : Tracked) (w : MessageKey) (what : EventKind) → IsStill what →
-      (c.mixed || mixes (event at w what)) ≡ c.mixed
-      → Alters c w (one_effect (message_reader C l) c at w what)
-      (part_of (message_reader C l) (event at w what) (c.known w.number))
-  unfolding part_of
+  pub still_alters : (at : ℕ) (c : Tracked) (w : MessageKey) (what : EventKind) →
+      LeavesOpenList what →
+      (c.mixed || ends_joining (event at w what)) ≡ c.mixed
+      → ChangesOneMessage c w (one_effect (message_reader C l) c at w what)
+      (message_effect (message_reader C l) (event at w what) (c.known w.number))
+  unfolding message_effect
   still_alters at c w what still calm =
       let R = message_reader C l in
       record {
@@ -112,7 +114,7 @@ module _ (C : Table) (l : Answers) where
 
   -- the current message isn't open, and this is what the code keeps of it
   own_parts : (s : Slots) (c : Tracked) (w : MessageKey) (message : Option Message) →
-      IsItself s.owner message → SlotsRepresent C l s c (Some w)
+      IsCurrentMessage s.owner message → SlotsRepresent C l s c (Some w)
       → IsNotOpen w.number c.still_open × RepresentsMessage C l message w (c.known w.number)
   own_parts s c w message e h = rw (e.0, e.1) at h.owner
 
@@ -132,7 +134,8 @@ module _ (C : Table) (l : Answers) where
       (index_of s.owner) (current_of s.owner) c w apart h.owner (λ k. k)
 
   own_now : (s : Slots) (of : PayloadOwner) (own' : Option Message) (c : Tracked) (w : MessageKey)
-      (effect : Effect) (part : Part) → IsItself of own' → Alters c w effect part
+      (effect : Effect) (part : MessageEffect) → IsCurrentMessage of own' →
+      ChangesOneMessage c w effect part
       → AreSlots C l s.slots.entries (slots_of c.known c.still_open) →
       IsNotOpen w.number c.still_open
       → RepresentsMessage C l own' w part.kept →
@@ -142,11 +145,11 @@ module _ (C : Table) (l : Answers) where
   own_now s of own' c w effect part is alters slots apart kept mixed = search (arith, no_slot)
 
   place_of : (s : Slots) (c : Tracked) (w : MessageKey) (k : ℕ) → index_of s.owner ≡ Some k →
-      SlotsRepresent C l s c (Some w) → Place c w k
+      SlotsRepresent C l s c (Some w) → IsOpenAtIndex c w k
   place_of s c w k e h = search (arith)
 
   slot_here : (s : Slots) (c : Tracked) (w : MessageKey) (k : ℕ) (x : OpenEntry) →
-      SlotsRepresent C l s c (Some w) → (p : Place c w k)
+      SlotsRepresent C l s c (Some w) → (p : IsOpenAtIndex c w k)
       → slice_get s.slots.entries k ≡ Some x →
       IsSlot C l x (record { open_as = p.slot; kept = c.known w.number })
   slot_here s c w k x h p e =
@@ -158,8 +161,9 @@ module _ (C : Table) (l : Answers) where
       subst (λ (n : ℕ). IsSlot C l x (record { open_as = p.slot; kept = c.known n })) number one
 
   pub slot_now : (s : Slots) (of : PayloadOwner) (x : OpenEntry) (message : Option Message)
-      (c : Tracked) (w : MessageKey) (effect : Effect) (part : Part)
-      (k : ℕ) → index_of of ≡ Some k → Alters c w effect part → Rising c.still_open →
+      (c : Tracked) (w : MessageKey) (effect : Effect) (part : MessageEffect)
+      (k : ℕ) → index_of of ≡ Some k → ChangesOneMessage c w effect part →
+      NumbersRise c.still_open →
       SlotsRepresent C l s c (Some w)
       → index_of s.owner ≡ Some k → slice_get s.slots.entries k ≡ Some x →
       RepresentsMessage C l message w part.kept
@@ -197,7 +201,8 @@ module _ (C : Table) (l : Answers) where
   -- the owner is the current message, or there is none
   pub own_has : (Q : Option MessageKey → Type 0) (s : Slots) (c : Tracked)
       (owner_of_next : Option MessageKey) (message : Option Message)
-      → IsItself s.owner message → SlotsRepresent C l s c owner_of_next → (message ≡ None → Q None)
+      → IsCurrentMessage s.owner message → SlotsRepresent C l s c owner_of_next → (message ≡ None →
+      Q None)
       → ((w : MessageKey) → SlotsRepresent C l s c (Some w) → Q (Some w)) → Q owner_of_next
   own_has Q s c None message e h none f = search (arith)
   own_has Q s c (Some w) message e h none f = f w h
@@ -222,10 +227,12 @@ module _ (C : Table) (l : Answers) where
 
   module _ {A E : Type 0} {n : A → ℕ} (r : Result A E) (a b : OutLog) where
     pub own_effects : (s : Slots) (of : PayloadOwner) (message own' : Option Message) (c : Tracked)
-        (w : MessageKey) (effect : Effect) (part : Part)
-        → IsItself of own'
-        → IsItself s.owner message → SlotsRepresent C l s c (Some w) → Alters c w effect part
-        → (RepresentsMessage C l message w (c.known w.number) → DoesPart C l n r a b own' w part)
+        (w : MessageKey) (effect : Effect) (part : MessageEffect)
+        → IsCurrentMessage of own'
+        → IsCurrentMessage s.owner message → SlotsRepresent C l s c (Some w) →
+        ChangesOneMessage c w effect part
+        → (RepresentsMessage C l message w (c.known w.number) →
+        DoesMessageEffect C l n r a b own' w part)
         → DoesEffect C l n r a b (record {
           slots = s.slots;
           owner = of;
@@ -241,11 +248,12 @@ module _ (C : Table) (l : Answers) where
     -- the owner is an open message
     pub slot_effects : (s : Slots) (of : PayloadOwner) (v : Contents) (message : Option Message)
         (c : Tracked) (w : MessageKey) (effect : Effect)
-        (part : Part) (k : ℕ) → index_of of ≡ Some k → index_of s.owner ≡ Some k →
+        (part : MessageEffect) (k : ℕ) → index_of of ≡ Some k → index_of s.owner ≡ Some k →
         option_map (λ e. e.value) (slice_get s.slots.entries k) ≡ Some v
-        → Rising c.still_open → SlotsRepresent C l s c (Some w) → Alters c w effect part
+        → NumbersRise c.still_open → SlotsRepresent C l s c (Some w) →
+        ChangesOneMessage c w effect part
         → (w.number ≡ v.number → RepresentsMessage C l v.message w (c.known w.number) →
-        DoesPart C l n r a b message w part)
+        DoesMessageEffect C l n r a b message w part)
         → DoesEffect C l n r a b (record {
           slots = with_value s.slots k (record v { message = message });
           owner = of;
@@ -262,7 +270,7 @@ module _ (C : Table) (l : Answers) where
 
   -- the message that represents the owner of the octets
   pub own_kept : (s : Slots) (c : Tracked) (w : MessageKey) (message : Option Message) →
-      IsItself s.owner message → SlotsRepresent C l s c (Some w)
+      IsCurrentMessage s.owner message → SlotsRepresent C l s c (Some w)
       → RepresentsMessage C l message w (c.known w.number)
   own_kept s c w message e h = search (arith, own_parts)
 
@@ -275,10 +283,11 @@ module _ (C : Table) (l : Answers) where
 
   -- an event changes what is kept of the open message that owns the octets
   pub slot_keeps : (s : Slots) (of : PayloadOwner) (v : Contents) (message : Option Message)
-      (c : Tracked) (w : MessageKey) (effect : Effect) (part : Part) (k : ℕ) →
+      (c : Tracked) (w : MessageKey) (effect : Effect) (part : MessageEffect) (k : ℕ) →
       index_of of ≡ Some k → index_of s.owner ≡ Some k →
       option_map (λ e. e.value) (slice_get s.slots.entries k) ≡ Some v
-      → Rising c.still_open → SlotsRepresent C l s c (Some w) → Alters c w effect part
+      → NumbersRise c.still_open → SlotsRepresent C l s c (Some w) →
+      ChangesOneMessage c w effect part
       → RepresentsMessage C l message w part.kept
       → SlotsRepresent C l (record {
         slots = with_value s.slots k (record v { message = message });
@@ -317,17 +326,18 @@ module _ (C : Table) (l : Answers) where
 
   -- an event that opens a message changes nothing of what is kept of it
   opens_then : (at : ℕ) (w : MessageKey) (i : Option ℕ) (o : Option Kept) →
-      known_then (message_reader C l) (event at w (Opens i)) o ≡ o
-  unfolding known_then lines_of lines_for lines_of_event up_to_last_line octet
+      message_kept_after (message_reader C l) (event at w (Opens i)) o ≡ o
+  unfolding message_kept_after lines_of lines_for lines_of_event up_to_last_line octets_of_event
   opens_then at w i None = refl
   opens_then at w i (Some kept) =
       ap (λ (xs : List ℕ). let k : Kept = record { octets = xs; phase = kept.phase } in Some k)
       (append-nil kept.octets)
 
   opened_still_open : (at : ℕ) (c : Tracked) (w : MessageKey) (i : Option ℕ)
-      → (tracked_at (message_reader C l) c (event at w (Opens i))).still_open ≡ c.still_open
+      → (tracked_after_event (message_reader C l) c (event at w (Opens i))).still_open
+      ≡ c.still_open
       ++ record { key = i; opener = w } ∷ []
-  unfolding tracked_at changed
+  unfolding tracked_after_event open_after_event
   opened_still_open at c w i = refl
 
   -- a message becomes open, as the code does it
@@ -341,16 +351,18 @@ module _ (C : Table) (l : Answers) where
         slots = slots';
         owner = owners.Open (Some k);
         is_mixed = s.is_mixed;
-      }) (tracked_at (message_reader C l) c (event at w (Opens i))) (Some w)
+      }) (tracked_after_event (message_reader C l) c (event at w (Opens i))) (Some w)
   open_keeps s slots' c w at number header i message k items is long h apart n f =
       let ev = event at w (Opens i) in
       let o : Open = record { key = i; opener = w } in
-      let known : (tracked_at (message_reader C l) c ev).known w.number ≡ c.known w.number =
+      let known : (tracked_after_event (message_reader C l) c ev).known w.number
+      ≡ c.known w.number =
       own_then (message_reader C l) c ev ∙ opens_then at w i (c.known w.number) in
-      let same : Each (λ a. (tracked_at (message_reader C l) c ev).known a.opener.number
+      let same : Each (λ a. (tracked_after_event (message_reader C l) c ev).known a.opener.number
       ≡ c.known a.opener.number) c.still_open =
       each_weaker (λ a. a.opener.number ≡ w.number → ⊥)
-      (λ a. (tracked_at (message_reader C l) c ev).known a.opener.number ≡ c.known a.opener.number)
+      (λ a. (tracked_after_event (message_reader C l) c ev).known a.opener.number
+      ≡ c.known a.opener.number)
       (λ a j. others_then (message_reader C l) c ev a.opener.number j) c.still_open apart in
       let many : length s.slots.entries ≡ length c.still_open =
       are_as_many C l s.slots.entries (slots_of c.known c.still_open) h.slots
@@ -359,7 +371,8 @@ module _ (C : Table) (l : Answers) where
         slots = rw (
           items,
           opened_still_open at c w i,
-          slot_comes (tracked_at (message_reader C l) c ev).known c.known c.still_open o same,
+          slot_comes (tracked_after_event (message_reader C l) c ev).known c.known c.still_open o
+              same,
           known,
         )
             (push_slot C l s.slots.entries (slots_of c.known c.still_open)
@@ -380,59 +393,62 @@ module _ (C : Table) (l : Answers) where
         );
       }
 
-  gone_still_open : (at : ℕ) (c : Tracked) (w : MessageKey) (what : EventKind) → IsGone what
-      → (tracked_at (message_reader C l) c (event at w what)).still_open
+  gone_still_open : (at : ℕ) (c : Tracked) (w : MessageKey) (what : EventKind) →
+      RemovesFromOpen what
+      → (tracked_after_event (message_reader C l) c (event at w what)).still_open
       ≡ filter (λ o. not (o.opener.number == w.number)) c.still_open
-  unfolding tracked_at
+  unfolding tracked_after_event
   gone_still_open at c w what h = h c.still_open w
 
   -- an event that refuses nothing makes no difference to whether Fragments of 1.1 are joined
   mixed_goes : {is_mixed : Bool} (c : Tracked) (w : MessageKey) (at : ℕ) (what : EventKind) →
-      is_mixed ≡ c.mixed → refuses what ≡ false →
-      is_mixed ≡ (tracked_at (message_reader C l) c (event at w what)).mixed
+      is_mixed ≡ c.mixed → is_opening_fault what ≡ false →
+      is_mixed ≡ (tracked_after_event (message_reader C l) c (event at w what)).mixed
   mixed_goes c w at what same calm =
       let e = event at w what in
       same ∙ sym (mixed_same (message_reader C l) c e (mixes_not e calm))
 
   -- if a message that isn't open closes, the slots stay
   own_gone : (c : Tracked) (w : MessageKey) (at : ℕ) (what : EventKind) (ks : List OpenEntry) →
-      IsGone what
+      RemovesFromOpen what
       → Each (λ o. o.opener.number ≡ w.number → ⊥) c.still_open →
       AreSlots C l ks (slots_of c.known c.still_open)
-      → AreSlots C l ks (slots_of (tracked_at (message_reader C l) c (event at w what)).known
-      (tracked_at (message_reader C l) c (event at w what)).still_open)
+      → AreSlots C l ks (slots_of (tracked_after_event (message_reader C l) c
+      (event at w what)).known
+      (tracked_after_event (message_reader C l) c (event at w what)).still_open)
   own_gone c w at what ks gone apart h =
       let e = event at w what in
       rw (
         gone_still_open at c w what gone,
         none_there c.still_open w.number apart,
         no_slot
-            (tracked_at (message_reader C l) c e).known c.known c.still_open w.number apart
+            (tracked_after_event (message_reader C l) c e).known c.known c.still_open w.number apart
             (λ i j. others_then (message_reader C l) c e i j),
       ) h
 
   -- if an open message closes, its slot is removed
   pub slot_goes : (c : Tracked) (k : ℕ) (o : Open) (at : ℕ) (what : EventKind)
-      (ks : List OpenEntry) → IsGone what
-      → Rising c.still_open → slice_get c.still_open k ≡ Some o →
+      (ks : List OpenEntry) → RemovesFromOpen what
+      → NumbersRise c.still_open → slice_get c.still_open k ≡ Some o →
       AreSlots C l ks (slots_of c.known c.still_open)
       → AreSlots C l (remove ks k) (slots_of
-      (tracked_at (message_reader C l) c (event at o.opener what)).known
-      (tracked_at (message_reader C l) c (event at o.opener what)).still_open)
+      (tracked_after_event (message_reader C l) c (event at o.opener what)).known
+      (tracked_after_event (message_reader C l) c (event at o.opener what)).still_open)
   slot_goes c k o at what ks gone rising here h =
       let e = event at o.opener what in
       rw (
         gone_still_open at c o.opener what gone,
         slot_gone
-            (tracked_at (message_reader C l) c e).known c.known c.still_open k o rising here
+            (tracked_after_event (message_reader C l) c e).known c.known c.still_open k o rising
+            here
             (λ i j. others_then (message_reader C l) c e i j),
       ) (remove_slot C l ks (slots_of c.known c.still_open) k h)
 
   -- a call that closes a message
   module _ {A E : Type 0} {n : A → ℕ} (r : Result A E) (a b : OutLog) (at : ℕ) where
     pub own_closes : (s : Slots) (of : PayloadOwner) (message : Option Message) (c : Tracked)
-        (owner_of_next : Option MessageKey) → IsItself of None
-        → IsItself s.owner message → SlotsRepresent C l s c owner_of_next
+        (owner_of_next : Option MessageKey) → IsCurrentMessage of None
+        → IsCurrentMessage s.owner message → SlotsRepresent C l s c owner_of_next
         → ((w : MessageKey) (o : Option Kept) → RepresentsMessage C l message w o →
         WritesLines n r a b (lines_of (message_reader C l) (event at w Closes) o))
         → DoesEffect C l n r a b (record { slots = s.slots; owner = of; is_mixed = s.is_mixed })
@@ -452,9 +468,10 @@ module _ (C : Table) (l : Answers) where
     pub slot_closes : (s : Slots) (of : PayloadOwner) (x : OpenEntry)
         (slots' : OptionalIdEntries Contents)
         (c : Tracked) (owner_of_next : Option MessageKey) (k : ℕ)
-        → IsItself of None → index_of s.owner ≡ Some k → slice_get s.slots.entries k ≡ Some x →
+        → IsCurrentMessage of None → index_of s.owner ≡ Some k →
+        slice_get s.slots.entries k ≡ Some x →
         slots'.entries ≡ remove s.slots.entries k
-        → Rising c.still_open → SlotsRepresent C l s c owner_of_next
+        → NumbersRise c.still_open → SlotsRepresent C l s c owner_of_next
         → ((w : MessageKey) → RepresentsMessage C l x.value.message w (c.known w.number) →
         WritesLines n r a b (lines_of (message_reader C l) (event at w Closes)
         (c.known w.number)))
@@ -496,23 +513,23 @@ module _ (C : Table) (l : Answers) where
   pub asked_by_one : (m : Message) (w : MessageKey) (o : Option Kept) (id : ℕ) (r : Bool) →
       RepresentsMessage C l (Some m) w o → ((kept : Kept) →
       RepresentsMessage C l (Some m) w (Some kept) →
-      r ≡ is_id (Some id) (asked_in (asks_by C l) w (Some kept)))
-      → r ≡ is_id (Some id) (asked_in (asks_by C l) w o)
+      r ≡ is_same_id (Some id) (given_id (asks_by C l) w (Some kept)))
+      → r ≡ is_same_id (Some id) (given_id (asks_by C l) w o)
   asked_by_one m w (Some kept) id r k f = f kept k
   asked_by_one m w None id r k f = absurd k
 
   pub asked_by_none : (w : MessageKey) (o : Option Kept) (id : ℕ) →
-      RepresentsMessage C l None w o → false ≡ is_id (Some id) (asked_in (asks_by C l) w o)
+      RepresentsMessage C l None w o → false ≡ is_same_id (Some id) (given_id (asks_by C l) w o)
   asked_by_none w (Some kept) id k = absurd k
   asked_by_none w None id k = refl
 
   pub cancel_keeps : (s : Slots) (slots' : OptionalIdEntries Contents) (c : Tracked)
       (w : MessageKey) (k : ℕ) (o : Open) (at j : ℕ)
       → SlotsRepresent C l s c (Some w) → IsNotOpen w.number c.still_open →
-      slice_get c.still_open k ≡ Some o → Rising c.still_open
+      slice_get c.still_open k ≡ Some o → NumbersRise c.still_open
       → slots'.entries ≡ remove s.slots.entries k
       → SlotsRepresent C l (record { slots = slots'; owner = s.owner; is_mixed = s.is_mixed })
-      (tracked_at (message_reader C l) c (event at o.opener (Cancelled j))) (Some w)
+      (tracked_after_event (message_reader C l) c (event at o.opener (Cancelled j))) (Some w)
   cancel_keeps s slots' c w k o at j h free here rising items = search (
     arith,
     at_index,

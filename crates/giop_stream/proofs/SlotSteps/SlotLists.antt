@@ -4,7 +4,7 @@ use Rattle.std.proofs.Common.{◌≡◌, ℕ, zero, suc, ◌<◌, ◌≤◌, Lis
 use Rattle.std.specs.Prelude.{slice_get, slice_set, option_map}
 use Rattle.std.specs.List.{remove, AllByRecursion as Each}
 use Rattle.giop_message.specs.declared.message.Message.{Message}
-use Rattle.giop_entry_table.specs.OptionalIds.{revalued}
+use Rattle.giop_entry_table.specs.OptionalIds.{replace_value}
 use Rattle.giop_stream.specs.declared.slots.Slot.{Slot as Contents}
 use Rattle.giop_stream.specs.declared.slots.Slots.{Slots}
 use Rattle.giop_sig.specs.Table.{Table}
@@ -62,11 +62,11 @@ value_at [] k v d e = absurd cc
 value_at (y ∷ ks) zero v d e = search (arith)
 value_at (y ∷ ks) (suc k) v d e = value_at ks k v d e
 
-pub none_behind : (ks : List OpenEntry) (k : ℕ) →
+pub none_beyond : (ks : List OpenEntry) (k : ℕ) →
     None ≡ option_map (λ e. e.value) (slice_get ks k) → k < length ks → ⊥
-none_behind [] k e l = omega (arith, l)
-none_behind (y ∷ ks) zero e l = search (arith)
-none_behind (y ∷ ks) (suc k) e l = none_behind ks k e (omega (arith, l))
+none_beyond [] k e l = omega (arith, l)
+none_beyond (y ∷ ks) zero e l = search (arith)
+none_beyond (y ∷ ks) (suc k) e l = none_beyond ks k e (omega (arith, l))
 
 pub some_within : (ks : List OpenEntry) (k : ℕ) (v : Contents) →
     Some v ≡ option_map (λ e. e.value) (slice_get ks k) → k < length ks
@@ -77,7 +77,7 @@ some_within (y ∷ ks) (suc k) v e = search (arith, some_within ks k v e)
 -- the entry after its message was replaced
 pub revalued_set : (ks : List OpenEntry) (k : ℕ) (x : OpenEntry) (message : Option Message) →
     slice_get ks k ≡ Some x
-    → revalued ks k (with_message x message).value ≡ slice_set ks k (with_message x message)
+    → replace_value ks k (with_message x message).value ≡ slice_set ks k (with_message x message)
 revalued_set [] k x message e = refl
 revalued_set (y ∷ ks) zero x message e = search (arith)
 revalued_set (y ∷ ks) (suc k) x message e = search (arith, revalued_set ks k x message e)
@@ -155,7 +155,7 @@ ready_at C n (y ∷ ks) (suc k) v e hs = ready_at C n ks k v e hs.1
 pub value_ready : (C : Table) (n : ℕ) (ks : List OpenEntry) (k : ℕ) (v : Contents) →
     IsReady C n v.message
     → Each (λ slot. IsReady C n slot.value.message) ks →
-    Each (λ slot. IsReady C n slot.value.message) (revalued ks k v)
+    Each (λ slot. IsReady C n slot.value.message) (replace_value ks k v)
 value_ready C n [] k v h hs = tt
 value_ready C n (y ∷ ks) zero v h hs = (h, hs.1)
 value_ready C n (y ∷ ks) (suc k) v h hs = (hs.0, value_ready C n ks k v h hs.1)

@@ -17,18 +17,18 @@ use Rattle.giop_stream.specs.Events.{MessageKey, Open}
 use Rattle.giop_stream.specs.Lines.{Kept}
 use Rattle.giop_stream.specs.Text.{truncated_line}
 use Rattle.giop_stream.specs.Stream.{with_truncated}
-use Rattle.giop_stream.specs.OpenSlots.{Slot, is_open, Tracked, slots_at, IsNotOpen, left_by, left_open}
+use Rattle.giop_stream.specs.OpenSlots.{Slot, is_open, Tracked, slots_at, IsNotOpen, number_if_kept, unfinished_number}
 use Rattle.giop_stream.specs.SlotsRepresent.{OpenEntry, RepresentsMessage, IsSlot, AreSlots, PayloadBelongs, index_of, current_of}
 use Rattle.giop_stream.specs.EngineView.{FramingView}
 use Rattle.giop_stream.specs.EngineState.{State}
-use Rattle.giop_stream.specs.EngineStep.{left_current, left_over, is_cut_short, final_totals, finish}
+use Rattle.giop_stream.specs.EngineStep.{unfinished_current, unfinished_numbers, is_cut_short, final_totals, text_at_finish}
 use Rattle.giop_stream.specs.FramingSteps as steps
 use Rattle.giop_stream.specs.ViewOfState.{Shows}
 
 -- ---- The slots.
 
 -- the line of a slot at the finish
-unfoldable pub slot_text : OpenEntry → List ℕ
+unfoldable pub slot_text : (slot : OpenEntry) → List ℕ
 slot_text slot = if is_some slot.value.message then unfinished_line slot.value.number else []
 
 pub slot_says : (ks : List OpenEntry) (i : ℕ) (v : Contents) (d : OpenEntry) →
@@ -59,14 +59,14 @@ open_at (a ∷ still_open) zero o e = search (arith, eq-eqb)
 open_at (a ∷ still_open) (suc k) o e = search (arith, or_right, open_at still_open k o e)
 
 -- the line of the current message at the finish; a Fragment has none
-unfoldable pub current_text : Option CodeMessage → List ℕ
+unfoldable pub current_text : (message : Option CodeMessage) → List ℕ
 current_text None = []
 current_text (Some m) = if is_any_fragment m.header then [] else unfinished_line m.number
 
 module _ (C : Table) (l : Answers) where
   line_kept : (n : ℕ) (own : Option CodeMessage) (w : MessageKey) (o : Option Kept) →
       n ≡ w.number → RepresentsMessage C l own w o
-      → flat_map unfinished_line (left_by w.number o)
+      → flat_map unfinished_line (number_if_kept w.number o)
       ≡ (if is_some own then unfinished_line n else [])
   line_kept n None w None e k = refl
   line_kept n None w (Some kept) e k = absurd k
@@ -74,13 +74,13 @@ module _ (C : Table) (l : Answers) where
   line_kept n (Some m) w (Some kept) e k = search (arith, append-nil)
 
   slot_left : (kept : OpenEntry) (slot : Slot) → IsSlot C l kept slot →
-      flat_map unfinished_line (left_open slot) ≡ slot_text kept
-  unfolding left_open slot_text
+      flat_map unfinished_line (unfinished_number slot) ≡ slot_text kept
+  unfolding unfinished_number slot_text
   slot_left kept slot is = search (arith, line_kept)
 
   -- the lines of the slots
   pub slots_left : (ks : List OpenEntry) (ss : List Slot) → AreSlots C l ks ss →
-      flat_map unfinished_line (flat_map left_open ss) ≡ flat_map slot_text ks
+      flat_map unfinished_line (flat_map unfinished_number ss) ≡ flat_map slot_text ks
   slots_left [] [] h = refl
   slots_left [] (s ∷ ss) h = absurd h
   slots_left (k ∷ ks) [] h = absurd h
@@ -97,7 +97,8 @@ module _ (C : Table) (l : Answers) where
 
   kept_left : (message : Option CodeMessage) (w : MessageKey) (o : Option Kept) →
       RepresentsMessage C l message w o
-      → flat_map unfinished_line (if is_any_fragment w.header then [] else left_by w.number o)
+      → flat_map unfinished_line (if is_any_fragment w.header then [] else number_if_kept w.number
+      o)
       ≡ current_text message
   unfolding current_text
   kept_left None w None k = search (arith, flat_map)
@@ -107,8 +108,8 @@ module _ (C : Table) (l : Answers) where
 
   pub current_left : (of : PayloadOwner) (c : Tracked) (who : Option MessageKey) →
       PayloadBelongs C l (index_of of) (current_of of) c who
-      → flat_map unfinished_line (left_current c who) ≡ current_text (current_of of)
-  unfolding left_current current_text
+      → flat_map unfinished_line (unfinished_current c who) ≡ current_text (current_of of)
+  unfolding unfinished_current current_text
   current_left (owners.Current message is_over) c None h = rw h refl
   current_left (owners.Current message is_over) c (Some w) h = search (arith, not_open, kept_left)
   current_left (owners.Open None) c None h = refl
@@ -135,15 +136,16 @@ module _ (C : Table) (l : Answers) (m : FramingView) (s : State) (h : Shows C l 
       ≡ (if steps.is_cut_short m then truncated_line m.totals.octets else [])
   truncation_is = search (arith, cut_short_is)
 
-pub left_text : (s : State) → flat_map unfinished_line (left_over s) ≡ flat_map unfinished_line
-    (flat_map left_open (slots_at s.tracked))
-    ++ flat_map unfinished_line (left_current s.tracked s.owner)
-unfolding left_over
+pub left_text : (s : State) → flat_map unfinished_line (unfinished_numbers s)
+    ≡ flat_map unfinished_line
+    (flat_map unfinished_number (slots_at s.tracked))
+    ++ flat_map unfinished_line (unfinished_current s.tracked s.owner)
+unfolding unfinished_numbers
 left_text s = search (arith, flat_map-append, flat_map)
 
-pub finish_text : (s : State) → finish s
+pub finish_text : (s : State) → text_at_finish s
     ≡ (if is_cut_short s then truncated_line s.totals.octets else [])
-    ++ (flat_map unfinished_line (left_over s)
+    ++ (flat_map unfinished_line (unfinished_numbers s)
     ++ total_line (final_totals s).messages (final_totals s).faults (final_totals s).octets)
-unfolding finish
+unfolding text_at_finish
 finish_text s = refl

@@ -3,13 +3,13 @@ use Rattle.std.proofs.Common.{arith, inl, inr, ◌≡◌, ℕ, Bool, true, false
 use Rattle.std.specs.Prelude.{◌==◌, if◌then◌else◌, ◌||◌, flat_map}
 use Rattle.std.specs.List.{filter, list_any, AllByRecursion as Each}
 use Rattle.std.proofs.lemmas.Bool.{or_cases, or_right, or_left, and_parts, eq-eqb, eqb-true}
-use Rattle.giop_message.specs.MessageReader.{LineClass, MessageReader, IsEnding, is_last}
+use Rattle.giop_message.specs.MessageReader.{LineClass, MessageReader, ClosesWithLastLine, is_last_class}
 use Rattle.giop_stream.specs.Rules.{Rules}
 use Rattle.giop_stream.specs.Events.{EventKind, Cancelled, Faults, Closes, Event, events}
-use Rattle.giop_stream.specs.Lines.{Class, Start, rank, Said, class_of, StreamLine, line, Kept, kept_of, lines_of_event, classes, by_class, is_last_of, up_to_last_line, lines_of_messages}
+use Rattle.giop_stream.specs.Lines.{Class, Start, rank, Said, class_of, StreamLine, line, Kept, kept_of, lines_of_event, classes, by_class, is_last_line_of, up_to_last_line, lines_of_messages}
 use Rattle.giop_stream.specs.Stream.{is_over}
 use Rattle.giop_stream.specs.OpenSlots.{KeptByNumber, known_of}
-use Rattle.giop_stream.specs.Effects.{kept_then, kept_with, lines_for}
+use Rattle.giop_stream.specs.Effects.{kept_after_event, kept_with, lines_for}
 use Rattle.giop_stream.proofs.StreamLines.EventsTogether.{all_lines, sorted_lines}
 use Rattle.giop_stream.proofs.Lists.{each_weaker, any_append}
 
@@ -88,51 +88,55 @@ any_by_class t ls h = let r = ranked t ls h in
 stand_by : (i : ℕ) (f : ℕ → Bool) (l : StreamLine) (ls : List StreamLine) (b c : Bool) →
     f i ≡ false →
     f l.number ≡ b
-    → is_last_of i l ≡ c → (c || list_any (is_last_of i) ls) ≡ true
-    → ((g : ℕ → Bool) → g i ≡ false → list_any (is_last_of i) ls ≡ true →
-    list_any (is_last_of i) (up_to_last_line g ls) ≡ true)
-    → list_any (is_last_of i) (if b then up_to_last_line f ls else l ∷ up_to_last_line
-    (λ j. f j || is_last_of j l) ls) ≡ true
-unfolding is_last_of
+    → is_last_line_of i l ≡ c → (c || list_any (is_last_line_of i) ls) ≡ true
+    → ((g : ℕ → Bool) → g i ≡ false → list_any (is_last_line_of i) ls ≡ true →
+    list_any (is_last_line_of i) (up_to_last_line g ls) ≡ true)
+    → list_any (is_last_line_of i) (if b then up_to_last_line f ls else l ∷ up_to_last_line
+    (λ j. f j || is_last_line_of j l) ls) ≡ true
+unfolding is_last_line_of
 stand_by i f l ls true true free e k h ih = search (arith, eqb-true, and_parts)
 stand_by i f l ls true false free e k h ih = ih f free h
 stand_by i f l ls false true free e k h ih = rw k refl
 stand_by i f l ls false false free e k h ih = search (arith, or_right)
 
 pub last_stands : (i : ℕ) (f : ℕ → Bool) (ls : List StreamLine) → f i ≡ false →
-    list_any (is_last_of i) ls ≡ true → list_any (is_last_of i) (up_to_last_line f ls) ≡ true
+    list_any (is_last_line_of i) ls ≡ true → list_any (is_last_line_of i) (up_to_last_line f ls)
+    ≡ true
 unfolding up_to_last_line
 last_stands i f [] free h = absurd cc
-last_stands i f (l ∷ ls) free h = stand_by i f l ls (f l.number) (is_last_of i l) free refl refl h
+last_stands i f (l ∷ ls) free h = stand_by i f l ls (f l.number)
+    (is_last_line_of i l) free refl refl h
     (λ g k j. last_stands i g ls k j)
 
 -- If no line is the last one of a message, none is among those that are written.
 none_by : (i : ℕ) (l : StreamLine) (ls : List StreamLine) (f : ℕ → Bool) (a b c : Bool) →
-    is_last_of i l ≡ a
-    → list_any (is_last_of i) ls ≡ b → (a || b) ≡ false
-    → ((f : ℕ → Bool) → list_any (is_last_of i) ls ≡ false →
-    list_any (is_last_of i) (up_to_last_line f ls) ≡ false)
-    → list_any (is_last_of i) (if c then up_to_last_line f ls else l ∷ up_to_last_line
-    (λ j. f j || is_last_of j l) ls) ≡ false
+    is_last_line_of i l ≡ a
+    → list_any (is_last_line_of i) ls ≡ b → (a || b) ≡ false
+    → ((f : ℕ → Bool) → list_any (is_last_line_of i) ls ≡ false →
+    list_any (is_last_line_of i) (up_to_last_line f ls) ≡ false)
+    → list_any (is_last_line_of i) (if c then up_to_last_line f ls else l ∷ up_to_last_line
+    (λ j. f j || is_last_line_of j l) ls) ≡ false
 none_by i l ls f true b c e k j ih = absurd cc
 none_by i l ls f false true c e k j ih = absurd cc
 none_by i l ls f false false true e k j ih = ih f k
 none_by i l ls f false false false e k j ih = search (arith)
 
 pub none_stands : (i : ℕ) (ls : List StreamLine) (f : ℕ → Bool) →
-    list_any (is_last_of i) ls ≡ false → list_any (is_last_of i) (up_to_last_line f ls) ≡ false
+    list_any (is_last_line_of i) ls ≡ false → list_any (is_last_line_of i) (up_to_last_line f ls)
+    ≡ false
 unfolding up_to_last_line
 none_stands i [] f h = refl
-none_stands i (l ∷ ls) f h = none_by i l ls f (is_last_of i l) (list_any (is_last_of i) ls)
+none_stands i (l ∷ ls) f h = none_by i l ls f (is_last_line_of i l) (list_any
+    (is_last_line_of i) ls)
     (f l.number) refl refl h (λ g k. none_stands i ls g k)
 
 -- A framing fault, a cancel and a close each write the last line of a message, unless the message
 -- is over.
-unfoldable pub is_final : EventKind → Bool
-is_final Closes = true
-is_final (Cancelled j) = true
-is_final (Faults fault) = true
-is_final _ = false
+unfoldable pub gives_last_line : (event_kind : EventKind) → Bool
+gives_last_line Closes = true
+gives_last_line (Cancelled j) = true
+gives_last_line (Faults fault) = true
+gives_last_line _ = false
 
 any_weaker : {A : Type 0} (p q : A → Bool) → ((x : A) → p x ≡ true → q x ≡ true) → (xs : List A) →
     list_any p xs ≡ true → list_any q xs ≡ true
@@ -149,19 +153,20 @@ pub any_map : {A B : Type 0} (t : B → Bool) (f : A → B) (xs : List A) →
 any_map t f [] = refl
 any_map t f (x ∷ xs) = search (arith, any_map t f xs)
 
-said_last : (e : Event) (s : LineClass) (text : List ℕ) → is_last s ≡ true →
-    is_last_of e.subject.number (line e (Said s text)) ≡ true
-unfolding is_last_of line
+said_last : (e : Event) (s : LineClass) (text : List ℕ) → is_last_class s ≡ true →
+    is_last_line_of e.subject.number (line e (Said s text)) ≡ true
+unfolding is_last_line_of line
 said_last e s text h = search (arith, eq-eqb)
 
-event_lines_final : (R : MessageReader) → IsEnding R →
-    (e : Event) (so_far all : Kept) (what : EventKind) → is_final what ≡ true
-    → list_any (is_last_of e.subject.number) (lines_of_event R e so_far all what) ≡ true
-unfolding lines_of_event is_final is_last_of line
+event_lines_final : (R : MessageReader) → ClosesWithLastLine R →
+    (e : Event) (so_far all : Kept) (what : EventKind) → gives_last_line what ≡ true
+    → list_any (is_last_line_of e.subject.number) (lines_of_event R e so_far all what) ≡ true
+unfolding lines_of_event gives_last_line is_last_line_of line
 event_lines_final R ending e so_far all Closes h =
-    rw (← any_map (is_last_of e.subject.number) (λ l. line e (Said l.0 l.1))
+    rw (← any_map (is_last_line_of e.subject.number) (λ l. line e (Said l.0 l.1))
     (R.closes so_far.phase e.subject.number e.subject.header so_far.octets))
-    (any_weaker (λ l. is_last l.0) (λ l. is_last_of e.subject.number (line e (Said l.0 l.1)))
+    (any_weaker (λ l. is_last_class l.0) (λ l. is_last_line_of e.subject.number (line e
+    (Said l.0 l.1)))
     (λ l. said_last e l.0 l.1)
     (R.closes so_far.phase e.subject.number e.subject.header so_far.octets)
     (ending.ends so_far.phase e.subject.number e.subject.header so_far.octets))
@@ -169,53 +174,57 @@ event_lines_final R ending e so_far all (Cancelled j) h = search (arith, eq-eqb)
 event_lines_final R ending e so_far all (Faults fault) h = search (arith, eq-eqb)
 event_lines_final R ending e so_far all _ h = absurd cc
 
-pub kept_final : (R : MessageReader) → IsEnding R → (e : Event) (o : Option Kept) (kept : Kept) →
+pub kept_final : (R : MessageReader) → ClosesWithLastLine R →
+    (e : Event) (o : Option Kept) (kept : Kept) →
     o ≡ Some kept
-    → is_final e.what ≡ true → list_any (is_last_of e.subject.number) (lines_for R e o) ≡ true
+    → gives_last_line e.what ≡ true → list_any (is_last_line_of e.subject.number) (lines_for R e o)
+    ≡ true
 unfolding lines_for
 kept_final R ending e None kept k h = absurd cc
 kept_final R ending e (Some held) kept k h = search (arith, event_lines_final)
 
-Ends : MessageReader → KeptByNumber → List Event → Event → Type 0
-Ends R K es e = is_final e.what ≡ true → (kept : Kept) → K e.subject.number ≡ Some kept →
-    list_any (is_last_of e.subject.number) (all_lines R K es) ≡ true
+EndsItsMessage : MessageReader → KeptByNumber → List Event → Event → Type 0
+EndsItsMessage R K es e = gives_last_line e.what ≡ true → (kept : Kept) →
+    K e.subject.number ≡ Some kept →
+    list_any (is_last_line_of e.subject.number) (all_lines R K es) ≡ true
 
 with_some : (K : KeptByNumber) (e : Event) (i : ℕ) (kept : Kept) → K i ≡ Some kept →
-    kept_with K e i ≡ Some (if e.subject.number == i then kept_then e.what kept else kept)
+    kept_with K e i ≡ Some (if e.subject.number == i then kept_after_event e.what kept else kept)
 unfolding kept_with
 with_some K e i kept h = rw h (go (e.subject.number == i))
   where
-    go : (b : Bool) → (if b then Some (kept_then e.what kept) else Some kept)
-        ≡ Some (if b then kept_then e.what kept else kept)
+    go : (b : Bool) → (if b then Some (kept_after_event e.what kept) else Some kept)
+        ≡ Some (if b then kept_after_event e.what kept else kept)
     go true = refl
     go false = refl
 
-ends_first : (R : MessageReader) → IsEnding R → (K : KeptByNumber) (e : Event) (es : List Event) →
-    Ends R K (e ∷ es) e
-unfolding Ends all_lines
+ends_first : (R : MessageReader) → ClosesWithLastLine R →
+    (K : KeptByNumber) (e : Event) (es : List Event) →
+    EndsItsMessage R K (e ∷ es) e
+unfolding EndsItsMessage all_lines
 ends_first R ending K e es h kept k = search (arith, any_left, all_lines, kept_final)
 
 ends_more : (R : MessageReader) (K : KeptByNumber) (e : Event) (es : List Event) (d : Event) →
-    Ends R (kept_with K e) es d → Ends R K (e ∷ es) d
-unfolding Ends all_lines
+    EndsItsMessage R (kept_with K e) es d → EndsItsMessage R K (e ∷ es) d
+unfolding EndsItsMessage all_lines
 ends_more R K e es d f h kept k =
-    any_right (is_last_of d.subject.number) (lines_for R e (K e.subject.number))
+    any_right (is_last_line_of d.subject.number) (lines_for R e (K e.subject.number))
     (all_lines R (kept_with K e) es)
-    (f h (if e.subject.number == d.subject.number then kept_then e.what kept else kept)
+    (f h (if e.subject.number == d.subject.number then kept_after_event e.what kept else kept)
     (with_some K e d.subject.number kept k))
 
-all_end : (R : MessageReader) → IsEnding R → (K : KeptByNumber) (es : List Event) →
-    Each (Ends R K es) es
+all_end : (R : MessageReader) → ClosesWithLastLine R → (K : KeptByNumber) (es : List Event) →
+    Each (EndsItsMessage R K es) es
 all_end R ending K [] = tt
 all_end R ending K (e ∷ es) = (
   ends_first R ending K e es,
-  each_weaker (Ends R (kept_with K e) es) (Ends R K (e ∷ es))
+  each_weaker (EndsItsMessage R (kept_with K e) es) (EndsItsMessage R K (e ∷ es))
       (λ d. ends_more R K e es d) es (all_end R ending (kept_with K e) es),
 )
 
 pub is_over_grows : (R : Rules) (p p' : List ℕ) (ls : List StreamLine) (i : ℕ) →
     lines_of_messages R p' ≡ lines_of_messages R p ++ ls
-    → is_over R p' i ≡ (is_over R p i || list_any (is_last_of i) ls)
+    → is_over R p' i ≡ (is_over R p i || list_any (is_last_line_of i) ls)
 unfolding is_over
 is_over_grows R p p' ls i sd = search (arith, any_append)
 
@@ -224,13 +233,13 @@ pub known_is : (R : Rules) (p : List ℕ) (i : ℕ) → is_over R p i ≡ false 
 unfolding known_of
 known_is R p i h = rw h refl
 
-unfoldable pub Dead : (ℕ → Bool) → Event → Type 0
-Dead over e = is_final e.what ≡ true → over e.subject.number ≡ true
+unfoldable pub IsOverIfFinal : (over : ℕ → Bool) (event : Event) → Type 0
+IsOverIfFinal over e = gives_last_line e.what ≡ true → over e.subject.number ≡ true
 
 dead_by : (R : Rules) (p p' : List ℕ) (es : List Event) →
     lines_of_messages R p' ≡ lines_of_messages R p ++ sorted_lines R.reading (known_of R p) es
-    → (e : Event) → Ends R.reading (known_of R p) es e → Dead (is_over R p') e
-unfolding Ends Dead sorted_lines
+    → (e : Event) → EndsItsMessage R.reading (known_of R p) es e → IsOverIfFinal (is_over R p') e
+unfolding EndsItsMessage IsOverIfFinal sorted_lines
 dead_by R p p' es sd e ends h = go (is_over R p i) refl
   where
     i : ℕ
@@ -242,10 +251,11 @@ dead_by R p p' es sd e ends h = go (is_over R p i) refl
         let uttered = ends h (kept_of i (events R p)) (known_is R p i k) in
         is_over_grows R p p' _ i sd ∙ or_right (is_over R p i) _
         (last_stands i (λ j. false) (by_class (all_lines R.reading (known_of R p) es)) refl
-        (any_by_class (is_last_of i) (all_lines R.reading (known_of R p) es) uttered))
+        (any_by_class (is_last_line_of i) (all_lines R.reading (known_of R p) es) uttered))
 
-pub dead : (R : Rules) → IsEnding R.reading → (p p' : List ℕ) (es : List Event)
+pub dead : (R : Rules) → ClosesWithLastLine R.reading → (p p' : List ℕ) (es : List Event)
     → lines_of_messages R p' ≡ lines_of_messages R p ++ sorted_lines R.reading (known_of R p) es →
-    Each (Dead (is_over R p')) es
-dead R ending p p' es sd = each_weaker (Ends R.reading (known_of R p) es) (Dead (is_over R p'))
+    Each (IsOverIfFinal (is_over R p')) es
+dead R ending p p' es sd = each_weaker (EndsItsMessage R.reading (known_of R p) es) (IsOverIfFinal
+    (is_over R p'))
     (dead_by R p p' es sd) es (all_end R.reading ending (known_of R p) es)

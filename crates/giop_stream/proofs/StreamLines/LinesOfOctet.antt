@@ -6,22 +6,23 @@ use Rattle.std.proofs.lemmas.Bool.{eq-eqb, ne_eqb, eqb-true, lt-ltb}
 use Rattle.std.proofs.lemmas.List.{append-nil, length_push}
 use Rattle.std.proofs.lemmas.List.Elements.{filter-append}
 use Rattle.std.proofs.lemmas.List.Concat.{flat_map-append}
-use Rattle.giop_stream.specs.Events.{EventKind, Begins, Takes, Opens, Continues, Seams, Cancelled, Faults, Closes, Event, octet, joined, phase_then, phase_from, phase_of}
+use Rattle.giop_stream.specs.Events.{EventKind, Begins, Takes, Opens, Continues, Seams, Cancelled, Faults, Closes, Event, octets_of_event, joined_octets, phase_after_event, phase_from, phase_of}
 use Rattle.giop_message.specs.Phases.{Phase, unbroken, AgreeBefore}
-use Rattle.giop_message.specs.MessageReader.{MessageReader, IsCausal, IsPhased}
-use Rattle.giop_stream.specs.Lines.{Class, Content, Said, StreamLine, Kept, nothing_kept, kept_of, has_class, line, lines_of_event, lines_of_events, classes, by_class, in_order, is_last_of, up_to_last_line}
+use Rattle.giop_message.specs.MessageReader.{MessageReader, KeepsEarlierLines, UsesPhaseBeforeEnd}
+use Rattle.giop_stream.specs.Lines.{Class, Content, Said, StreamLine, Kept, nothing_kept, kept_of, has_class, line, lines_of_event, lines_of_events, classes, by_class, in_order, is_last_line_of, up_to_last_line}
 use Rattle.giop_stream.specs.OpenSlots.{KeptByNumber}
-use Rattle.giop_stream.specs.Effects.{kept_then, lines_for, kept_with}
+use Rattle.giop_stream.specs.Effects.{kept_after_event, lines_for, kept_with}
 use Rattle.giop_stream.proofs.StreamLines.EventsTogether.{all_lines, kept_through}
 use Rattle.giop_stream.proofs.Lists.{filter_keeps, filter_drops, filter_swap, each_append, each_weaker, each_map, each_filter}
 
 -- The octets of a message in a longer list of events.
-pub joined_append : (i : ℕ) (es fs : List Event) → joined i (es ++ fs) ≡ joined i es ++ joined i fs
-unfolding joined
+pub joined_append : (i : ℕ) (es fs : List Event) → joined_octets i (es ++ fs) ≡ joined_octets i es
+    ++ joined_octets i fs
+unfolding joined_octets
 joined_append i es fs = search (arith, flat_map-append)
 
-joined_own : (e : Event) → joined e.subject.number (e ∷ []) ≡ octet e.what
-unfolding joined
+joined_own : (e : Event) → joined_octets e.subject.number (e ∷ []) ≡ octets_of_event e.what
+unfolding joined_octets
 joined_own e = search (arith, eq-eqb, append-nil)
 
 -- What padding is counted by, after a longer list of events.
@@ -31,7 +32,8 @@ unfolding phase_from
 phase_from_append i phase past [] fs = rw append-nil refl
 phase_from_append i phase past (e ∷ es) fs =
     let next : Phase =
-    if e.subject.number == i then phase_then (joined i past) phase e.what else phase in
+    if e.subject.number == i then phase_after_event (joined_octets i past) phase e.what else phase
+    in
     phase_from_append i next (past ++ e ∷ []) es fs
     ∙ ap (λ (so_far : List Event). phase_from i (phase_from i next (past ++ e ∷ []) es) so_far fs)
     (append_assoc past (e ∷ []) es)
@@ -42,14 +44,15 @@ unfolding phase_of
 phase_append i es fs = phase_from_append i unbroken [] es fs
 
 phase_push : (i : ℕ) (es : List Event) (e : Event) → phase_of i (es ++ e ∷ [])
-    ≡ (if e.subject.number == i then phase_then (joined i es) (phase_of i es) e.what
+    ≡ (if e.subject.number == i then phase_after_event (joined_octets i es) (phase_of i es) e.what
     else phase_of i es)
 unfolding phase_from
 phase_push i es e = phase_append i es (e ∷ [])
 
 -- What is kept of a message after one more event: of the event's own message, and of another one.
 pub kept_own : (past : List Event) (e : Event) →
-    kept_of e.subject.number (past ++ e ∷ []) ≡ kept_then e.what (kept_of e.subject.number past)
+    kept_of e.subject.number (past ++ e ∷ []) ≡ kept_after_event e.what
+    (kept_of e.subject.number past)
 kept_own past e =
     let i = e.subject.number in
     rw (
@@ -61,49 +64,57 @@ kept_own past e =
 
 pub kept_other : (past : List Event) (e : Event) (i : ℕ) → (e.subject.number == i) ≡ false →
     kept_of i (past ++ e ∷ []) ≡ kept_of i past
-unfolding joined
+unfolding joined_octets
 kept_other past e i h =
-    rw (joined_append i past (e ∷ []), phase_push i past e, h, append-nil (joined i past)) refl
+    rw (
+      joined_append i past (e ∷ []),
+      phase_push i past e,
+      h,
+      append-nil (joined_octets i past),
+    ) refl
 
 pub kept_push : (i : ℕ) (past : List Event) (e : Event) → kept_of i (past ++ e ∷ [])
-    ≡ (if e.subject.number == i then kept_then e.what (kept_of i past) else kept_of i past)
+    ≡ (if e.subject.number == i then kept_after_event e.what (kept_of i past) else kept_of i past)
 kept_push i past e = go (e.subject.number == i) refl
   where
     go : (b : Bool) → (e.subject.number == i) ≡ b → kept_of i (past ++ e ∷ [])
-        ≡ (if b then kept_then e.what (kept_of i past) else kept_of i past)
-    go true is = subst (λ (k : ℕ). kept_of k (past ++ e ∷ []) ≡ kept_then e.what (kept_of k past))
+        ≡ (if b then kept_after_event e.what (kept_of i past) else kept_of i past)
+    go true is = subst (λ (k : ℕ). kept_of k (past ++ e ∷ []) ≡ kept_after_event e.what
+        (kept_of k past))
         (eqb-true e.subject.number i is) (kept_own past e)
     go false is = kept_other past e i is
 
 -- Later events change nothing before them in what padding is counted by.
 agrees_one : (b : Bool) (xs : List ℕ) (phase : Phase) (what : EventKind) →
-    AgreeBefore (12 + length xs) (if b then phase_then xs phase what else phase) phase
+    AgreeBefore (12 + length xs) (if b then phase_after_event xs phase what else phase) phase
 agrees_one false xs phase what at h = refl
 agrees_one true xs phase Seams at h = rw (lt-ltb at (12 + length xs) h) refl
 agrees_one true xs phase _ at h = refl
 
 phase_from_agrees : (i : ℕ) (phase : Phase) (past es : List Event) →
-    AgreeBefore (12 + length (joined i past)) (phase_from i phase past es) phase
+    AgreeBefore (12 + length (joined_octets i past)) (phase_from i phase past es) phase
 unfolding phase_from
 phase_from_agrees i phase past [] at h = refl
 phase_from_agrees i phase past (e ∷ es) at h =
     let next : Phase =
-    if e.subject.number == i then phase_then (joined i past) phase e.what else phase in
-    let longer : length (joined i (past ++ e ∷ []))
-    ≡ length (joined i past) + length (joined i (e ∷ [])) =
-    ap length (joined_append i past (e ∷ [])) ∙ length-append (joined i past) (joined i (e ∷ [])) in
+    if e.subject.number == i then phase_after_event (joined_octets i past) phase e.what else phase
+    in
+    let longer : length (joined_octets i (past ++ e ∷ []))
+    ≡ length (joined_octets i past) + length (joined_octets i (e ∷ [])) =
+    ap length (joined_append i past (e ∷ [])) ∙ length-append (joined_octets i past)
+    (joined_octets i (e ∷ [])) in
     phase_from_agrees i next (past ++ e ∷ []) es at (omega (arith, h, longer))
-    ∙ agrees_one (e.subject.number == i) (joined i past) phase e.what at h
+    ∙ agrees_one (e.subject.number == i) (joined_octets i past) phase e.what at h
 
 pub phases_agree : (i : ℕ) (es fs : List Event) →
-    AgreeBefore (12 + length (joined i es)) (phase_of i (es ++ fs)) (phase_of i es)
+    AgreeBefore (12 + length (joined_octets i es)) (phase_of i (es ++ fs)) (phase_of i es)
 phases_agree i es fs at h =
     ap (λ (phase : Phase). phase at) (phase_append i es fs)
     ∙ phase_from_agrees i (phase_of i es) es fs at h
 
 -- the first octet after a header is counted as the twelfth one, even if a payload begins with it
 twelve_one : (b : Bool) (xs : List ℕ) (phase : Phase) (what : EventKind) → phase 12 ≡ 12 →
-    (if b then phase_then xs phase what else phase) 12 ≡ 12
+    (if b then phase_after_event xs phase what else phase) 12 ≡ 12
 twelve_one false xs phase what h = h
 twelve_one true xs phase Seams h = go (ltb 12 (12 + length xs))
   where
@@ -117,21 +128,23 @@ twelve_from : (i : ℕ) (phase : Phase) (past es : List Event) → phase 12 ≡ 
 unfolding phase_from
 twelve_from i phase past [] h = h
 twelve_from i phase past (e ∷ es) h =
-    twelve_from i (if e.subject.number == i then phase_then (joined i past) phase e.what else phase)
-    (past ++ e ∷ []) es (twelve_one (e.subject.number == i) (joined i past) phase e.what h)
+    twelve_from i (if e.subject.number == i then phase_after_event
+    (joined_octets i past) phase e.what else phase)
+    (past ++ e ∷ []) es (twelve_one (e.subject.number == i) (joined_octets i past) phase e.what h)
 
 pub phase_twelve : (i : ℕ) (es : List Event) → phase_of i es 12 ≡ 12
 unfolding phase_of
 phase_twelve i es = twelve_from i unbroken [] es refl
 
 -- The lines of an event depend only on what is kept up to it.
-event_lines_early : (R : MessageReader) → IsCausal R → IsPhased R →
+event_lines_early : (R : MessageReader) → KeepsEarlierLines R → UsesPhaseBeforeEnd R →
     (e : Event) (so_far all : Kept) (more : List ℕ) (what : EventKind)
-    → all.octets ≡ (kept_then what so_far).octets ++ more
-    → AgreeBefore (12 + length (kept_then what so_far).octets) all.phase
-    (kept_then what so_far).phase
-    → lines_of_event R e so_far all what ≡ lines_of_event R e so_far (kept_then what so_far) what
-unfolding lines_of_event octet
+    → all.octets ≡ (kept_after_event what so_far).octets ++ more
+    → AgreeBefore (12 + length (kept_after_event what so_far).octets) all.phase
+    (kept_after_event what so_far).phase
+    → lines_of_event R e so_far all what ≡ lines_of_event R e so_far
+    (kept_after_event what so_far) what
+unfolding lines_of_event octets_of_event
 event_lines_early R causal phased e so_far all more (Takes x) h k =
     let w = e.subject in
     let xs = so_far.octets ++ x ∷ [] in
@@ -144,12 +157,14 @@ event_lines_early R causal phased e so_far all more (Takes x) h k =
 event_lines_early R causal phased e so_far all more _ h k = refl
 
 -- The lines of events; what is kept up to an event determines its lines.
-unfoldable pub lines_so_far : MessageReader → List Event → List Event → List StreamLine
+unfoldable pub lines_so_far : (R : MessageReader) (past events : List Event) → List StreamLine
 lines_so_far R past [] = []
 lines_so_far R past (e ∷ es) = lines_of_event R e (kept_of e.subject.number past)
-    (kept_then e.what (kept_of e.subject.number past)) e.what ++ lines_so_far R (past ++ e ∷ []) es
+    (kept_after_event e.what (kept_of e.subject.number past)) e.what ++ lines_so_far R (past ++ e
+    ∷ []) es
 
-pub lines_by_past : (R : MessageReader) → IsCausal R → IsPhased R → (all past es : List Event) →
+pub lines_by_past : (R : MessageReader) → KeepsEarlierLines R → UsesPhaseBeforeEnd R →
+    (all past es : List Event) →
     past ++ es ≡ all → lines_of_events R all past es ≡ lines_so_far R past es
 unfolding lines_of_events lines_so_far
 lines_by_past R causal phased all past [] h = refl
@@ -158,18 +173,20 @@ lines_by_past R causal phased all past (e ∷ es) h =
     let now = past ++ e ∷ [] in
     let split : now ++ es ≡ all = append_assoc past (e ∷ []) es ∙ h in
     let own = kept_own past e in
-    let octets : joined i all ≡ (kept_then e.what (kept_of i past)).octets ++ joined i es =
-    ap (joined i) (sym split) ∙ (joined_append i now es
-    ∙ ap (λ (kept : Kept). kept.octets ++ joined i es) own) in
-    let whole : AgreeBefore (12 + length (joined i now)) (phase_of i all) (phase_of i now) =
-    subst (λ (l : List Event). AgreeBefore (12 + length (joined i now)) (phase_of i l)
+    let octets : joined_octets i all ≡ (kept_after_event e.what (kept_of i past)).octets
+    ++ joined_octets i es =
+    ap (joined_octets i) (sym split) ∙ (joined_append i now es
+    ∙ ap (λ (kept : Kept). kept.octets ++ joined_octets i es) own) in
+    let whole : AgreeBefore (12 + length (joined_octets i now)) (phase_of i all) (phase_of i now) =
+    subst (λ (l : List Event). AgreeBefore (12 + length (joined_octets i now)) (phase_of i l)
     (phase_of i now)) split (phases_agree i now es) in
-    let agree : AgreeBefore (12 + length (kept_then e.what (kept_of i past)).octets)
-    (phase_of i all) (kept_then e.what (kept_of i past)).phase =
+    let agree : AgreeBefore (12 + length (kept_after_event e.what (kept_of i past)).octets)
+    (phase_of i all) (kept_after_event e.what (kept_of i past)).phase =
     subst (λ (kept : Kept). AgreeBefore (12 + length kept.octets) (phase_of i all) kept.phase) own
     whole in
     rw (
-      event_lines_early R causal phased e (kept_of i past) (kept_of i all) (joined i es) e.what
+      event_lines_early R causal phased e (kept_of i past) (kept_of i all)
+          (joined_octets i es) e.what
           octets agree,
       lines_by_past R causal phased all now es split,
     ) refl
@@ -186,12 +203,13 @@ lines_so_far_append R past (e ∷ es) fs = search (
 )
 
 -- If more events come at the end, their lines come at the end.
-pub lines_grow : (R : MessageReader) → IsCausal R → IsPhased R → (es fs : List Event) →
+pub lines_grow : (R : MessageReader) → KeepsEarlierLines R → UsesPhaseBeforeEnd R →
+    (es fs : List Event) →
     lines_of_events R (es ++ fs) [] (es ++ fs) ≡ lines_of_events R es [] es ++ lines_so_far R es fs
 lines_grow R causal phased es fs = search (arith, lines_by_past, lines_so_far_append)
 
 -- Each line of an event has its place and its message.
-unfoldable pub IsOf : Event → StreamLine → Type 0
+unfoldable pub IsOf : (event : Event) (line : StreamLine) → Type 0
 IsOf e l = (l.place ≡ e.place) × (l.number ≡ e.subject.number)
 
 line_of : (e : Event) (content : Content) → IsOf e (line e content)
@@ -313,21 +331,21 @@ unfolding up_to_last_line
 standing_skips f l ls e = rw (up_to_last_line, e) refl
 
 standing_keeps : (f : ℕ → Bool) (l : StreamLine) (ls : List StreamLine) → f l.number ≡ false →
-    up_to_last_line f (l ∷ ls) ≡ l ∷ up_to_last_line (λ i. f i || is_last_of i l) ls
+    up_to_last_line f (l ∷ ls) ≡ l ∷ up_to_last_line (λ i. f i || is_last_line_of i l) ls
 unfolding up_to_last_line
 standing_keeps f l ls e = rw (up_to_last_line, e) refl
 
 append_by : (f : ℕ → Bool) (l : StreamLine) (xs ys : List StreamLine) (b : Bool) → f l.number ≡ b
     → ((f : ℕ → Bool) → up_to_last_line f (xs ++ ys) ≡ up_to_last_line f xs
-    ++ up_to_last_line (λ i. f i || list_any (is_last_of i) (up_to_last_line f xs)) ys)
+    ++ up_to_last_line (λ i. f i || list_any (is_last_line_of i) (up_to_last_line f xs)) ys)
     → up_to_last_line f (l ∷ xs ++ ys) ≡ up_to_last_line f (l ∷ xs)
-    ++ up_to_last_line (λ i. f i || list_any (is_last_of i) (up_to_last_line f (l ∷ xs))) ys
+    ++ up_to_last_line (λ i. f i || list_any (is_last_line_of i) (up_to_last_line f (l ∷ xs))) ys
 append_by f l xs ys true e ih = search (arith, standing_skips)
 append_by f l xs ys false e ih = search (arith, standing_keeps, standing_same, or_or)
 
 pub standing_append : (f : ℕ → Bool) (xs ys : List StreamLine)
     → up_to_last_line f (xs ++ ys) ≡ up_to_last_line f xs
-    ++ up_to_last_line (λ i. f i || list_any (is_last_of i) (up_to_last_line f xs)) ys
+    ++ up_to_last_line (λ i. f i || list_any (is_last_line_of i) (up_to_last_line f xs)) ys
 unfolding up_to_last_line
 standing_append f [] ys = search (arith, standing_same, or_false)
 standing_append f (l ∷ xs) ys = append_by f l xs ys (f l.number) refl (λ g. standing_append g xs ys)
@@ -352,13 +370,13 @@ standing_drops over orig f (l ∷ ls) h = drops_by over orig f l ls h
     (λ o g k. standing_drops o orig g ls k) (orig l.number) (f l.number) refl refl
 
 -- The lines of several events: those of the messages that are not over, from what is kept of them.
-unfoldable pub keeping : (ℕ → Bool) → List Event → KeptByNumber
+unfoldable pub keeping : (over : ℕ → Bool) (past : List Event) → KeptByNumber
 keeping over past i = if over i then None else Some (kept_of i past)
 
 kept_with_by : (a b : Bool) (kept : Kept) (what : EventKind)
-    → (if b then option_map (kept_then what) (if a then None else Some kept)
+    → (if b then option_map (kept_after_event what) (if a then None else Some kept)
     else (if a then None else Some kept))
-    ≡ (if a then None else Some (if b then kept_then what kept else kept))
+    ≡ (if a then None else Some (if b then kept_after_event what kept else kept))
 kept_with_by true true kept what = refl
 kept_with_by true false kept what = refl
 kept_with_by false true kept what = refl
@@ -386,7 +404,7 @@ all_lines_same R f g es h = search (arith, all_lines)
 one_by : (R : MessageReader) (over : ℕ → Bool) (past : List Event) (e : Event) (b : Bool) →
     over e.subject.number ≡ b
     → filter (λ l. not (over l.number)) (lines_of_event R e (kept_of e.subject.number past)
-    (kept_then e.what (kept_of e.subject.number past)) e.what)
+    (kept_after_event e.what (kept_of e.subject.number past)) e.what)
     ≡ lines_for R e (keeping over past e.subject.number)
 unfolding lines_for keeping IsOf
 one_by R over past e true k = search (arith, filter_drops, not, each_weaker, event_lines_of)
@@ -424,7 +442,7 @@ all_lines_agree R f g (e ∷ es) h =
     (each_weaker (λ d. f d.subject.number ≡ g d.subject.number)
     (λ d. kept_with f e d.subject.number ≡ kept_with g e d.subject.number)
     (λ d k. ap (λ (o : Option Kept). if e.subject.number == d.subject.number
-    then option_map (kept_then e.what) o else o) k) es h.1)))
+    then option_map (kept_after_event e.what) o else o) k) es h.1)))
 
 -- The new lines that are written are those of the effects.
 pub standing_all_lines : (R : MessageReader) (over : ℕ → Bool) (past es : List Event)
@@ -490,8 +508,8 @@ unfolding up_to_last_line
 standing_each P over [] h = tt
 standing_each P over (l ∷ ls) h =
     stands_by P (over l.number) l (up_to_last_line over ls)
-    (up_to_last_line (λ i. over i || is_last_of i l) ls) h.0
-    (standing_each P over ls h.1) (standing_each P (λ i. over i || is_last_of i l) ls h.1)
+    (up_to_last_line (λ i. over i || is_last_line_of i l) ls) h.0
+    (standing_each P over ls h.1) (standing_each P (λ i. over i || is_last_line_of i l) ls h.1)
 
 pub written_each : (R : MessageReader) (P : ℕ → Type 0) (known : KeptByNumber) (es : List Event) →
     Each (λ e. P e.subject.number) es
@@ -499,17 +517,18 @@ pub written_each : (R : MessageReader) (P : ℕ → Type 0) (known : KeptByNumbe
 unfolding by_class
 written_each R P known es h = search (arith, standing_each, classes_each, all_lines, all_lines_each)
 
-none_last_by : (i : ℕ) (l : StreamLine) → l.number < i → is_last_of i l ≡ false
-unfolding is_last_of
+none_last_by : (i : ℕ) (l : StreamLine) → l.number < i → is_last_line_of i l ≡ false
+unfolding is_last_line_of
 none_last_by i l h = search (arith, ne_eqb)
 
 pub none_last : (i : ℕ) (ls : List StreamLine) → Each (λ l. l.number < i) ls →
-    list_any (is_last_of i) ls ≡ false
+    list_any (is_last_line_of i) ls ≡ false
 none_last i [] h = refl
 none_last i (l ∷ ls) h = search (arith, none_last_by, none_last i ls h.1)
 
-pub none_joined : (i : ℕ) (es : List Event) → Each (λ e. e.subject.number < i) es → joined i es ≡ []
-unfolding joined
+pub none_joined : (i : ℕ) (es : List Event) → Each (λ e. e.subject.number < i) es →
+    joined_octets i es ≡ []
+unfolding joined_octets
 none_joined i [] h = refl
 none_joined i (e ∷ es) h = search (arith, ne_eqb, none_joined i es h.1)
 

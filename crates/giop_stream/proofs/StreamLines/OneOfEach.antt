@@ -7,14 +7,14 @@ use Rattle.std.proofs.lemmas.List.{length_push}
 use Rattle.std.proofs.lemmas.List.Elements.{filter-append}
 use Rattle.giop_stream.specs.Rules.{Rules}
 use Rattle.giop_stream.specs.Framing.{Cut}
-use Rattle.giop_message.specs.MessageReader.{IsCausal, IsStreamable}
+use Rattle.giop_message.specs.MessageReader.{KeepsEarlierLines, IsStreamable}
 use Rattle.giop_stream.specs.Lines.{Class, rank, StreamLine, has_class, lines}
 use Rattle.giop_stream.specs.OpenSlots.{Tracked}
-use Rattle.giop_stream.specs.Octet.{Octet, Ends, Of}
+use Rattle.giop_stream.specs.Octet.{OctetKind, Ends, Of}
 use Rattle.giop_stream.proofs.Lists.{by_growth, filter_drops, each_append, each_weaker}
-use Rattle.giop_stream.proofs.StreamLines.Ordering.{rank_of, Rises}
+use Rattle.giop_stream.proofs.StreamLines.Ordering.{rank_of, RanksRise}
 use Rattle.giop_stream.proofs.Cuts.Start.{lines_nothing}
-use Rattle.giop_stream.proofs.CodeSteps.OneOctet.{Adds, Then, then_is}
+use Rattle.giop_stream.proofs.CodeSteps.OneOctet.{AddsLinesAndState, IsStateThen, then_is}
 use Rattle.giop_stream.proofs.CodeSteps.EngineAlive.{sound}
 
 -- ---- If the classes of lines rise, each class has at most one line.
@@ -26,7 +26,7 @@ passed test n h k less = search (arith)
 
 one_at_most : (test : StreamLine → Bool) (n : ℕ) → ((l : StreamLine) → test l ≡ true →
     rank_of l ≡ n) →
-    (ls : List StreamLine) → Rises ls → length (filter test ls) ≤ 1
+    (ls : List StreamLine) → RanksRise ls → length (filter test ls) ≤ 1
 one_at_most test n h [] r = omega arith
 one_at_most test n h (l ∷ ls) r = search (
   arith,
@@ -40,29 +40,30 @@ one_at_most test n h (l ∷ ls) r = search (
 
 -- ---- The lines that an octet adds.
 
-record More (R : Rules) (p : List ℕ) (x : ℕ) : Type 0 where
+record AddsRisingLines (R : Rules) (p : List ℕ) (octet : ℕ) : Type 0 where
   more : List StreamLine
-  grows : lines R (p ++ x ∷ []) ≡ lines R p ++ more
+  grows : lines R (p ++ octet ∷ []) ≡ lines R p ++ more
   here : Each (λ l. l.place ≡ suc (length p)) more
-  rises : Rises more
+  rises : RanksRise more
 
 more_of : (R : Rules) (p : List ℕ) (x : ℕ) (c : Cut) (ls : List StreamLine) (tracked : Tracked) →
-    Adds R p (p ++ x ∷ []) c ls tracked → More R p x
+    AddsLinesAndState R p (p ++ x ∷ []) c ls tracked → AddsRisingLines R p x
 more_of R p x c ls tracked h = search (arith)
 
-more_by : (R : Rules) (p : List ℕ) (x : ℕ) (o : Octet) → Then R p x o → More R p x
+more_by : (R : Rules) (p : List ℕ) (x : ℕ) (o : OctetKind) → IsStateThen R p x o →
+    AddsRisingLines R p x
 more_by R p x (Ends fault) h = more_of R p x _ _ _ h.1
 more_by R p x (Of now) h = more_of R p x _ _ _ h.1.adds
 more_by R p x _ h = more_of R p x _ _ _ h.2
 
 -- ---- Octet by octet.
 
-abbrev is_at : ℕ → Class → StreamLine → Bool
+abbrev is_at : (k : ℕ) (c : Class) (l : StreamLine) → Bool
 is_at k c l = (l.place == k) && has_class c l
 
-record Apart (R : Rules) (p : List ℕ) : Type 0 where
-  places : Each (λ l. l.place ≤ length p) (lines R p)
-  one : (k : ℕ) (c : Class) → length (filter (is_at k c) (lines R p)) ≤ 1
+record HasOneOfEachClass (R : Rules) (stream : List ℕ) : Type 0 where
+  places : Each (λ l. l.place ≤ length stream) (lines R stream)
+  one : (k : ℕ) (c : Class) → length (filter (is_at k c) (lines R stream)) ≤ 1
 
 is_ranked : (k : ℕ) (c : Class) (l : StreamLine) → is_at k c l ≡ true → rank_of l ≡ rank c
 is_ranked k c l h = search (arith, eqb-true, rank_of, and_parts)
@@ -70,8 +71,9 @@ is_ranked k c l h = search (arith, eqb-true, rank_of, and_parts)
 elsewhere : (k : ℕ) (c : Class) (l : StreamLine) → (l.place ≡ k → ⊥) → is_at k c l ≡ false
 elsewhere k c l h = rw (ne_eqb l.place k h) refl
 
-apart_more : (R : Rules) → IsCausal R.reading → IsStreamable R.reading → (p : List ℕ) (x : ℕ) →
-    Apart R p → Apart R (p ++ x ∷ [])
+apart_more : (R : Rules) → KeepsEarlierLines R.reading → IsStreamable R.reading →
+    (p : List ℕ) (x : ℕ) →
+    HasOneOfEachClass R p → HasOneOfEachClass R (p ++ x ∷ [])
 apart_more R causal laws p x h =
     let a = more_by R p x _ (then_is R causal laws p x (sound R causal laws p)) in
     let old = lines R p in
@@ -99,11 +101,11 @@ apart_more R causal laws p x h =
       ]);
     }
 
-apart_start : (R : Rules) → Apart R []
+apart_start : (R : Rules) → HasOneOfEachClass R []
 apart_start R = search (arith, lines_nothing)
 
-pub one_of_class : (R : Rules) → IsCausal R.reading → IsStreamable R.reading →
+pub one_of_class : (R : Rules) → KeepsEarlierLines R.reading → IsStreamable R.reading →
     (p : List ℕ) (k : ℕ) (c : Class)
     → length (filter (λ l. (l.place == k) && has_class c l) (lines R p)) ≤ 1
-one_of_class R causal laws p = (by_growth (Apart R) (apart_start R)
+one_of_class R causal laws p = (by_growth (HasOneOfEachClass R) (apart_start R)
     (λ p x. apart_more R causal laws p x) p).one

@@ -6,58 +6,58 @@ use Rattle.std.specs.List.{filter, list_any, AllByRecursion as Each}
 use Rattle.std.proofs.lemmas.Bool.{ne_eqb, eqb-true}
 use Rattle.std.proofs.lemmas.List.Elements.{filter-append}
 use Rattle.giop_message.specs.MessageReader.{MessageReader}
-use Rattle.giop_stream.specs.Events.{EventKind, Event, mixes, opened}
-use Rattle.giop_stream.specs.Lines.{Class, Start, rank, class_of, StreamLine, Kept, has_class, classes, by_class, is_last_of, up_to_last_line}
+use Rattle.giop_stream.specs.Events.{EventKind, Event, ends_joining, open_after_events}
+use Rattle.giop_stream.specs.Lines.{Class, Start, rank, class_of, StreamLine, Kept, has_class, classes, by_class, is_last_line_of, up_to_last_line}
 use Rattle.giop_stream.specs.OpenSlots.{KeptByNumber, Tracked}
 use Rattle.giop_stream.proofs.StreamLines.EventsTogether.{all_lines, sorted_lines, kept_through}
-use Rattle.giop_stream.specs.Effects.{kept_then, lines_at, tracked_at, effects, lines_for, kept_with, kept_after}
+use Rattle.giop_stream.specs.Effects.{kept_after_event, lines_at, tracked_after_event, effects, lines_for, kept_with, kept_unless_ended}
 use Rattle.giop_stream.proofs.Lists.{filter_drops, filter_keeps, each_weaker, each_filter, any_append}
 use Rattle.giop_stream.proofs.StreamLines.LinesOfOctet.{standing_append, standing_drops, standing_each, event_lines_number}
 
 -- ---- Lines in the order of their classes.
 
-abbrev pub rank_of : StreamLine → ℕ
+abbrev pub rank_of : (line : StreamLine) → ℕ
 rank_of l = rank (class_of l.content)
 
-abbrev pub Ordered : List StreamLine → Type 0
-Ordered [] = Unit {0}
-Ordered (l ∷ ls) = Each (λ k. rank_of l ≤ rank_of k) ls × Ordered ls
+abbrev pub RanksDoNotFall : (lines : List StreamLine) → Type 0
+RanksDoNotFall [] = Unit {0}
+RanksDoNotFall (l ∷ ls) = Each (λ k. rank_of l ≤ rank_of k) ls × RanksDoNotFall ls
 
 -- lines whose ranks rise, so that no two have the same class
-abbrev pub Rises : List StreamLine → Type 0
-Rises [] = Unit {0}
-Rises (l ∷ ls) = Each (λ k. rank_of l < rank_of k) ls × Rises ls
+abbrev pub RanksRise : (lines : List StreamLine) → Type 0
+RanksRise [] = Unit {0}
+RanksRise (l ∷ ls) = Each (λ k. rank_of l < rank_of k) ls × RanksRise ls
 
-pub rises_ordered : (ls : List StreamLine) → Rises ls → Ordered ls
+pub rises_ordered : (ls : List StreamLine) → RanksRise ls → RanksDoNotFall ls
 rises_ordered [] h = tt
 rises_ordered (l ∷ ls) h = search (arith, each_weaker, rises_ordered ls h.1)
 
 rises_if : (b : Bool) (l : StreamLine) (one two : List StreamLine) →
     Each (λ k. rank_of l < rank_of k) two →
-    Rises one → Rises two → Rises (if b then one else l ∷ two)
+    RanksRise one → RanksRise two → RanksRise (if b then one else l ∷ two)
 rises_if true l one two h j k = j
 rises_if false l one two h j k = (h, k)
 
-pub rises_standing : (over : ℕ → Bool) (ls : List StreamLine) → Rises ls →
-    Rises (up_to_last_line over ls)
+pub rises_standing : (over : ℕ → Bool) (ls : List StreamLine) → RanksRise ls →
+    RanksRise (up_to_last_line over ls)
 unfolding up_to_last_line
 rises_standing over [] h = tt
 rises_standing over (l ∷ ls) h =
-    let later : ℕ → Bool = λ i. over i || is_last_of i l in
+    let later : ℕ → Bool = λ i. over i || is_last_line_of i l in
     rises_if (over l.number) l (up_to_last_line over ls) (up_to_last_line later ls)
     (standing_each (λ k. rank_of l < rank_of k) later ls h.0) (rises_standing over ls h.1)
     (rises_standing later ls h.1)
 
 -- the lines are in order, and no two of those that are written have the same class
-pub record Fine (ls : List StreamLine) : Type 0 where
-  pub ordered : Ordered ls
-  pub rises : Rises (up_to_last_line (λ i. false) ls)
+pub record IsOrderedWithoutTwins (ls : List StreamLine) : Type 0 where
+  pub ordered : RanksDoNotFall ls
+  pub rises : RanksRise (up_to_last_line (λ i. false) ls)
 
-pub fine_of : (ls : List StreamLine) → Rises ls → Fine ls
+pub fine_of : (ls : List StreamLine) → RanksRise ls → IsOrderedWithoutTwins ls
 fine_of ls h = search (arith, rises_ordered, rises_standing)
 
 -- the ranks of these classes rise
-abbrev Rise : List Class → Type 0
+abbrev Rise : (classes : List Class) → Type 0
 Rise [] = Unit {0}
 Rise (c ∷ cs) = Each (λ d. rank c < rank d) cs × Rise cs
 
@@ -121,23 +121,24 @@ no_lines [] = refl
 no_lines (c ∷ cs) = no_lines cs
 
 -- lines in the order of their classes stay as they are when they are sorted
-pub ordered_stays : (ls : List StreamLine) → Ordered ls → by_class ls ≡ ls
+pub ordered_stays : (ls : List StreamLine) → RanksDoNotFall ls → by_class ls ≡ ls
 unfolding by_class
 ordered_stays [] h = no_lines classes
 ordered_stays (l ∷ ls) h = first_stays classes l ls classes_rise h.0 (a_class (class_of l.content))
     ∙ ap (λ (ks : List StreamLine). l ∷ ks) (ordered_stays ls h.1)
 
-pub ordered_right : (xs ys : List StreamLine) → Ordered (xs ++ ys) → Ordered ys
+pub ordered_right : (xs ys : List StreamLine) → RanksDoNotFall (xs ++ ys) → RanksDoNotFall ys
 ordered_right [] ys h = h
 ordered_right (x ∷ xs) ys h = ordered_right xs ys h.1
 
 filtered_by : (q : StreamLine → Bool) (l : StreamLine) (ls : List StreamLine) (b : Bool) →
     Each (λ k. rank_of l ≤ rank_of k) ls
-    → Ordered (filter q ls) → Ordered (cond b (l ∷ filter q ls) (filter q ls))
+    → RanksDoNotFall (filter q ls) → RanksDoNotFall (cond b (l ∷ filter q ls) (filter q ls))
 filtered_by q l ls true h k = search (arith, each_filter)
 filtered_by q l ls false h k = k
 
-ordered_filter : (q : StreamLine → Bool) (ls : List StreamLine) → Ordered ls → Ordered (filter q ls)
+ordered_filter : (q : StreamLine → Bool) (ls : List StreamLine) → RanksDoNotFall ls →
+    RanksDoNotFall (filter q ls)
 ordered_filter q [] h = tt
 ordered_filter q (l ∷ ls) h = search (arith, filtered_by, ordered_filter q ls h.1)
 
@@ -163,8 +164,8 @@ kept_filter R over e o false h =
     (event_lines_number R (λ n. over n ≡ false) e o h))
 
 restricted_by : (a b : Bool) (o : Option Kept) (what : EventKind)
-    → (if a then None else (if b then option_map (kept_then what) o else o))
-    ≡ (if b then option_map (kept_then what) (if a then None else o) else
+    → (if a then None else (if b then option_map (kept_after_event what) o else o))
+    ≡ (if b then option_map (kept_after_event what) (if a then None else o) else
     (if a then None else o))
 restricted_by true true o what = refl
 restricted_by true false o what = refl
@@ -210,9 +211,9 @@ all_lines_filter R over K (e ∷ es) =
 
 pub record AreEffects (R : MessageReader) (c : Tracked) (es : List Event) : Type 0 where
   pub lines : sorted_lines R c.known es ≡ (effects R c es).lines
-  pub still_open : opened c.still_open es ≡ (effects R c es).tracked.still_open
-  pub mixed : (c.mixed || list_any mixes es) ≡ (effects R c es).tracked.mixed
-  pub known : (i : ℕ) → kept_after (kept_through c.known es) (sorted_lines R c.known es) i
+  pub still_open : open_after_events c.still_open es ≡ (effects R c es).tracked.still_open
+  pub mixed : (c.mixed || list_any ends_joining es) ≡ (effects R c es).tracked.mixed
+  pub known : (i : ℕ) → kept_unless_ended (kept_through c.known es) (sorted_lines R c.known es) i
       ≡ (effects R c es).tracked.known i
 
 kept_by : (a b : Bool) (o : Option Kept)
@@ -232,14 +233,14 @@ or_none false = refl
 
 -- the lines of the first event, and then those of the others, from what is kept after it
 split_lines : (R : MessageReader) (K : KeptByNumber) (e : Event) (es : List Event) →
-    Ordered (all_lines R K (e ∷ es))
+    RanksDoNotFall (all_lines R K (e ∷ es))
     → sorted_lines R K (e ∷ es) ≡ lines_at R K e
-    ++ sorted_lines R (kept_after (kept_with K e) (lines_at R K e)) es
-unfolding sorted_lines lines_at all_lines kept_after restricted
+    ++ sorted_lines R (kept_unless_ended (kept_with K e) (lines_at R K e)) es
+unfolding sorted_lines lines_at all_lines kept_unless_ended restricted
 split_lines R K e es h =
     let A = lines_for R e (K e.subject.number) in
     let B = all_lines R (kept_with K e) es in
-    let over : ℕ → Bool = λ i. list_any (is_last_of i) (up_to_last_line (λ i. false) A) in
+    let over : ℕ → Bool = λ i. list_any (is_last_line_of i) (up_to_last_line (λ i. false) A) in
     let later : all_lines R (λ i. if over i then None else kept_with K e i) es
     ≡ filter (λ l. not (over l.number)) B =
     sym (all_lines_filter R over (kept_with K e) es) in
@@ -253,11 +254,11 @@ split_lines R K e es h =
     (standing_drops over over (λ i. false) B (λ i. or_none (over i))))
 
 later_ordered : (R : MessageReader) (K : KeptByNumber) (e : Event) (es : List Event) →
-    Ordered (all_lines R K (e ∷ es))
-    → Ordered (all_lines R (kept_after (kept_with K e) (lines_at R K e)) es)
-unfolding all_lines kept_after restricted
+    RanksDoNotFall (all_lines R K (e ∷ es))
+    → RanksDoNotFall (all_lines R (kept_unless_ended (kept_with K e) (lines_at R K e)) es)
+unfolding all_lines kept_unless_ended restricted
 later_ordered R K e es h =
-    let over : ℕ → Bool = λ i. list_any (is_last_of i) (lines_at R K e) in
+    let over : ℕ → Bool = λ i. list_any (is_last_line_of i) (lines_at R K e) in
     rw (← all_lines_filter R over (kept_with K e) es)
     (ordered_filter (λ l. not (over l.number)) (all_lines R (kept_with K e) es)
     (ordered_right (lines_for R e (K e.subject.number)) (all_lines R (kept_with K e) es) h))
@@ -266,22 +267,22 @@ nothing_now : (R : MessageReader) (K : KeptByNumber) → sorted_lines R K [] ≡
 unfolding sorted_lines all_lines up_to_last_line
 nothing_now R K = rw (ordered_stays [] tt) refl
 
-nothing_else : (K : KeptByNumber) (i : ℕ) → kept_after (kept_through K []) [] i ≡ K i
-unfolding kept_after kept_through
+nothing_else : (K : KeptByNumber) (i : ℕ) → kept_unless_ended (kept_through K []) [] i ≡ K i
+unfolding kept_unless_ended kept_through
 nothing_else K i = refl
 
 pub are_effects : (R : MessageReader) (c : Tracked) (es : List Event) →
-    Ordered (all_lines R c.known es) → AreEffects R c es
-unfolding effects opened tracked_at lines_at restricted
+    RanksDoNotFall (all_lines R c.known es) → AreEffects R c es
+unfolding effects open_after_events tracked_after_event lines_at restricted
 are_effects R c [] h = search (arith, nothing_now, nothing_else, or_none)
 are_effects R c (e ∷ es) h =
-    let now = tracked_at R c e in
+    let now = tracked_after_event R c e in
     let ih = are_effects R now es (later_ordered R c.known e es h) in
     let split = split_lines R c.known e es h in
     record {
       lines = split ∙ rw ih.lines refl;
       still_open = ih.still_open;
-      mixed = or_or c.mixed (mixes e) (list_any mixes es) ∙ ih.mixed;
+      mixed = or_or c.mixed (ends_joining e) (list_any ends_joining es) ∙ ih.mixed;
       known =
           λ i. rw split (one i) ∙ ih.known i;
     }
@@ -290,15 +291,17 @@ are_effects R c (e ∷ es) h =
     first = lines_at R c.known e
 
     over : ℕ → Bool
-    over i = list_any (is_last_of i) first
+    over i = list_any (is_last_line_of i) first
 
     later : List StreamLine
-    later = sorted_lines R (kept_after (kept_with c.known e) first) es
+    later = sorted_lines R (kept_unless_ended (kept_with c.known e) first) es
 
-    one : (i : ℕ) → kept_after (kept_through c.known (e ∷ es)) (first ++ later) i
-        ≡ kept_after (kept_through (kept_after (kept_with c.known e) first) es) later i
-    one i = unfold kept_after kept_through in
-        rw (any_append (is_last_of i) first later)
-        (kept_by (over i) (list_any (is_last_of i) later) (kept_through (kept_with c.known e) es i)
-        ∙ ap (λ (o : Option Kept). if list_any (is_last_of i) later then None else o)
+    one : (i : ℕ) → kept_unless_ended (kept_through c.known (e ∷ es)) (first ++ later) i
+        ≡ kept_unless_ended (kept_through (kept_unless_ended
+        (kept_with c.known e) first) es) later i
+    one i = unfold kept_unless_ended kept_through in
+        rw (any_append (is_last_line_of i) first later)
+        (kept_by (over i) (list_any (is_last_line_of i) later) (kept_through
+        (kept_with c.known e) es i)
+        ∙ ap (λ (o : Option Kept). if list_any (is_last_line_of i) later then None else o)
         (sym (restricted_through over (kept_with c.known e) es i)))

@@ -8,11 +8,11 @@ use Rattle.giop_print.proofs.Writing.{wrote-append, wrote-front, front-append}
 use Rattle.giop_sig.specs.HeaderTypes.{IsTable}
 use Rattle.giop_sig.specs.Table.{Table}
 use Rattle.giop_sig.specs.Trees.{catalogue_depth}
-use Rattle.giop_message.specs.MessageReader.{IsCausal, IsStreamable}
+use Rattle.giop_message.specs.MessageReader.{KeepsEarlierLines, IsStreamable}
 use Rattle.giop_message.specs.Signatures.{RequestTable}
 use Rattle.giop_checkpoint.specs.declared.layout.Layout.{Layout}
 use Rattle.giop_checkpoint.specs.declared.fixed.Fixed.{Fixed}
-use Rattle.giop_checkpoint.specs.Layouts.{reads}
+use Rattle.giop_checkpoint.specs.Layouts.{reads_layout}
 use Rattle.giop_checkpoint.specs.Fixed.{HasRange, fixed_octets}
 use Rattle.giop_checkpoint.proofs.Fronts.{front_of}
 use Rattle.giop_stream.specs.Rules.{Rules, rules}
@@ -28,7 +28,7 @@ use Rattle.giop_stream.proofs.StreamLines.MoreOctets.{text_adds}
 use Rattle.giop_stream.proofs.Restored.LoadRanges.{fixed_range, few_slots}
 use Rattle.giop_stream.proofs.Restored.SavedSizes.{HasRoom, whole_long, whole_within}
 
-pub remains : (R : Rules) → IsCausal R.reading → IsStreamable R.reading → (p q : List ℕ) →
+pub remains : (R : Rules) → KeepsEarlierLines R.reading → IsStreamable R.reading → (p q : List ℕ) →
     text R p ++ remaining R p q ≡ whole_text R (p ++ q)
 unfolding remaining whole_text
 remains R causal laws p q = search (arith, append_assoc, text_adds)
@@ -85,7 +85,7 @@ pub final_by : (ended : Result Totals Stop) (Q R : Rules) (p : List ℕ) → Q �
     IfOk ended (λ t. t ≡ final Q p) → IfOk ended (λ t. t ≡ final R p)
 final_by ended Q R p same totals = search (arith)
 
-fixed_long : (layout : Layout) (f : Fixed) → reads f.counts.version layout ≡ true →
+fixed_long : (layout : Layout) (f : Fixed) → reads_layout f.counts.version layout ≡ true →
     HasRange layout f → length (fixed_octets layout f) ≡ 96
 fixed_long layout f is_read range =
     let front = front_of layout f.counts f (fixed_octets layout f) [] refl is_read range
@@ -94,7 +94,7 @@ fixed_long layout f is_read range =
 
 spelled_read : (octets p : List ℕ) (C : Table) (l : RequestTable) (most : ℕ)
     (s : Spells octets C l most p) →
-    reads (fixed_of C l s.memory).counts.version s.layout ≡ true
+    reads_layout (fixed_of C l s.memory).counts.version s.layout ≡ true
 unfolding fixed_of counts_of
 spelled_read octets p C l most s = s.is_read
 

@@ -2,30 +2,31 @@
 -- messages gives.
 use Rattle.std.proofs.Common.{inl, inr, ◌⊎◌, ◌≡◌, ℕ, ◌<◌, ◌≤◌, true, List, [], ◌∷◌, ◌++◌, map, refl, arith}
 use Rattle.std.specs.List.{list_any, AllByRecursion as Each}
-use Rattle.giop_message.specs.MessageReader.{LineClass, Value, Call, Rest, Fault, End, AreInLineOrder, AtClose, is_fault}
+use Rattle.giop_message.specs.MessageReader.{LineClass, Value, Call, Rest, Fault, End, AreInLineOrder, AreCloseClasses, is_fault_class}
 use Rattle.giop_stream.specs.Events.{Event}
 use Rattle.giop_stream.specs.Lines.{Said, StreamLine, line}
 use Rattle.giop_stream.proofs.Lists.{each_append, each_weaker}
-use Rattle.giop_stream.proofs.StreamLines.Ordering.{rank_of, Rises}
+use Rattle.giop_stream.proofs.StreamLines.Ordering.{rank_of, RanksRise}
 
 -- ---- Lines whose classes rise, within two ranks.
 
-abbrev pub Between : ℕ → ℕ → StreamLine → Type 0
-Between lo hi l = (lo ≤ rank_of l) × (rank_of l ≤ hi)
+abbrev pub IsRankBetween : (lo hi : ℕ) (l : StreamLine) → Type 0
+IsRankBetween lo hi l = (lo ≤ rank_of l) × (rank_of l ≤ hi)
 
-pub record Spans (lo hi : ℕ) (ls : List StreamLine) : Type 0 where
-  pub within : Each (Between lo hi) ls
-  pub rises : Rises ls
+pub record RanksRiseWithin (lo hi : ℕ) (ls : List StreamLine) : Type 0 where
+  pub within : Each (IsRankBetween lo hi) ls
+  pub rises : RanksRise ls
 
-pub spans_none : (lo hi : ℕ) → Spans lo hi []
+pub spans_none : (lo hi : ℕ) → RanksRiseWithin lo hi []
 spans_none lo hi = search (arith)
 
-pub spans_wider : (a b lo hi : ℕ) (ls : List StreamLine) → a ≤ lo → hi ≤ b → Spans lo hi ls →
-    Spans a b ls
+pub spans_wider : (a b lo hi : ℕ) (ls : List StreamLine) → a ≤ lo → hi ≤ b →
+    RanksRiseWithin lo hi ls →
+    RanksRiseWithin a b ls
 spans_wider a b lo hi ls h k s = search (arith, each_weaker)
 
 rises_join : (n : ℕ) (xs ys : List StreamLine) → Each (λ l. rank_of l ≤ n) xs →
-    Each (λ l. n < rank_of l) ys → Rises xs → Rises ys → Rises (xs ++ ys)
+    Each (λ l. n < rank_of l) ys → RanksRise xs → RanksRise ys → RanksRise (xs ++ ys)
 rises_join n [] ys h k o p = p
 rises_join n (x ∷ xs) ys h k o p = search (
   arith,
@@ -36,32 +37,33 @@ rises_join n (x ∷ xs) ys h k o p = search (
       xs ys h.1 k o.1 p,
 )
 
-pub spans_join : (a b c d : ℕ) (xs ys : List StreamLine) → b < c → a ≤ c → b ≤ d → Spans a b xs →
-    Spans c d ys → Spans a d (xs ++ ys)
+pub spans_join : (a b c d : ℕ) (xs ys : List StreamLine) → b < c → a ≤ c → b ≤ d →
+    RanksRiseWithin a b xs →
+    RanksRiseWithin c d ys → RanksRiseWithin a d (xs ++ ys)
 spans_join a b c d xs ys h k i s t = record {
-  within = each_append (Between a d) xs ys
-      (each_weaker (Between a b) (Between a d)
+  within = each_append (IsRankBetween a d) xs ys
+      (each_weaker (IsRankBetween a b) (IsRankBetween a d)
       (λ l j. let low = j.0 in let high = j.1 in (omega arith, omega arith)) xs s.within)
-      (each_weaker (Between c d) (Between a d)
+      (each_weaker (IsRankBetween c d) (IsRankBetween a d)
       (λ l j. let low = j.0 in let high = j.1 in (omega arith, omega arith)) ys t.within);
-  rises = rises_join b xs ys (each_weaker (Between a b) (λ l. rank_of l ≤ b) (λ l j. j.1) xs
-      s.within) (each_weaker (Between c d) (λ l. b < rank_of l)
+  rises = rises_join b xs ys (each_weaker (IsRankBetween a b) (λ l. rank_of l ≤ b) (λ l j. j.1) xs
+      s.within) (each_weaker (IsRankBetween c d) (λ l. b < rank_of l)
       (λ l j. let low = j.0 in omega arith) ys t.within) s.rises t.rises;
 }
 
-pub spans_one : (n : ℕ) (l : StreamLine) → rank_of l ≡ n → Spans n n (l ∷ [])
+pub spans_one : (n : ℕ) (l : StreamLine) → rank_of l ≡ n → RanksRiseWithin n n (l ∷ [])
 spans_one n l h = search (arith)
 
 -- ---- The same for a reader's line classes.
 
-abbrev pub class_rank : LineClass → ℕ
+abbrev pub class_rank : (line_class : LineClass) → ℕ
 class_rank Value = 1
 class_rank Call = 2
 class_rank Rest = 6
 class_rank Fault = 7
 class_rank End = 8
 
-abbrev pub LineClassesRise : List LineClass → Type 0
+abbrev pub LineClassesRise : (classes : List LineClass) → Type 0
 LineClassesRise [] = Unit {0}
 LineClassesRise (s ∷ ss) = Each (λ t. class_rank s < class_rank t) ss × LineClassesRise ss
 
@@ -87,7 +89,7 @@ reader_classes_each P e f g (x ∷ xs) h = search (
 )
 
 pub reader_classes_rise : {A : Type 0} (e : Event) (f : A → LineClass) (g : A → List ℕ)
-    (xs : List A) → LineClassesRise (map f xs) → Rises (map (λ a. line e (Said (f a) (g a))) xs)
+    (xs : List A) → LineClassesRise (map f xs) → RanksRise (map (λ a. line e (Said (f a) (g a))) xs)
 reader_classes_rise e f g [] h = tt
 reader_classes_rise {A} e f g (x ∷ xs) h = (
   rw (rank_said e (f x) (g x)) (reader_classes_each (λ n. class_rank (f x) < n) e f g xs h.0),
@@ -96,7 +98,7 @@ reader_classes_rise {A} e f g (x ∷ xs) h = (
 
 pub class_spans : {A : Type 0} (lo hi : ℕ) (e : Event) (f : A → LineClass) (g : A → List ℕ)
     (xs : List A) → ClassSpans lo hi (map f xs) →
-    Spans lo hi (map (λ a. line e (Said (f a) (g a))) xs)
+    RanksRiseWithin lo hi (map (λ a. line e (Said (f a) (g a))) xs)
 class_spans lo hi e f g xs h = record {
   within =
       reader_classes_each (λ n. (lo ≤ n) × (n ≤ hi)) e f g xs h.within;
@@ -112,14 +114,15 @@ turn_spans ss (inr (inr (inr (inl e)))) = search (arith)
 turn_spans ss (inr (inr (inr (inr (inl e))))) = search (arith)
 turn_spans ss (inr (inr (inr (inr (inr e))))) = search (arith)
 
-pub close_spans : (ss : List LineClass) → AtClose ss → ClassSpans 6 8 ss
+pub close_spans : (ss : List LineClass) → AreCloseClasses ss → ClassSpans 6 8 ss
 close_spans ss (inl e) = search (arith)
 close_spans ss (inr (inl e)) = search (arith)
 close_spans ss (inr (inr e)) = search (arith)
 
 -- the line classes at one octet and at the close after it; only a fault can come twice
-pub both_say : (ds cs : List LineClass) → AreInLineOrder ds → AtClose cs →
-    (list_any is_fault ds ≡ true → cs ≡ End ∷ []) → (ds ≡ Rest ∷ [] → cs ≡ Rest ∷ End ∷ [] → ⊥)
+pub both_say : (ds cs : List LineClass) → AreInLineOrder ds → AreCloseClasses cs →
+    (list_any is_fault_class ds ≡ true → cs ≡ End ∷ []) → (ds ≡ Rest ∷ [] → cs ≡ Rest ∷ End ∷ [] →
+    ⊥)
     → LineClassesRise (ds ++ cs) ⊎ ((ds ≡ Fault ∷ []) × (cs ≡ Fault ∷ []))
 both_say ds cs (inl e) c h k = search (arith, close_spans)
 both_say ds cs (inr (inl e)) (inl f) h k = rw (e, f) (inl (omega arith))

@@ -7,7 +7,7 @@ use Rattle.giop_capture.proofs.console.print_capture.Goals as goal
 
 pub returns-in_default-clause-status : goal.returns-in_default-clause-status
 returns-in_default-clause-status c =
-    (Err faults.OutOfMemory, (None, inl (inl refl)), c.failed.ensures)
+    (Err faults.OutOfMemory, (None, inl (inl refl)), c.print_fault.ensures)
 
 pub returns-in-Ok-perform_capture-clause-status : goal.returns-in-Ok-perform_capture-clause-status
 returns-in-Ok-perform_capture-clause-status c = (

@@ -1,6 +1,6 @@
 -- The end of a capture comes after its packets.
 use Rattle.std.proofs.lemmas.Result.{err_from_is_err_and}
-use Rattle.giop_capture.specs.Packets.{taken_of}
+use Rattle.giop_capture.specs.Packets.{capture_packets}
 use Rattle.giop_capture.specs.Arrivals.{after_packets, capture_ended}
 use Rattle.giop_capture.proofs.ending.read_capture.Goals as goal
 
@@ -18,7 +18,7 @@ returns-in-Ok-clause-ran g c =
     let ran = c.in_ok-read_packets.ensures.ran w h in
     let handed = ran.1.handed in
     let e = c.in-Ok.ensures.ended ran.1.read
-    (after_packets g.L.Listener.reader w (taken_of ran.1.read)) handed.reads
+    (after_packets g.L.Listener.reader w (capture_packets ran.1.read)) handed.reads
     handed.taken.state in (
       ran.0,
       record {

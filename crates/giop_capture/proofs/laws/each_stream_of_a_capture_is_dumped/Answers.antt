@@ -5,7 +5,7 @@ use Rattle.std.specs.List.{AllByRecursion as Each}
 use Rattle.tcp_flow.specs.Flow.{flow_of}
 use Rattle.tcp_connections.specs.Connections.{none_known}
 use Rattle.giop_stream.specs.Stream.{text, closing}
-use Rattle.giop_conversation.specs.Captured.{start, rules_in, number_in}
+use Rattle.giop_conversation.specs.Captured.{start, rules_in, next_stream_number}
 use Rattle.giop_conversation.specs.Followed.{stream_reader}
 use Rattle.giop_conversation.specs.StreamTexts.{no_history, history}
 use Rattle.giop_capture.specs.Arrivals.{capture_ended}
@@ -50,5 +50,5 @@ returns-clause-slots c = λ S written ports blocks most octets d some few same l
     most octets some few) in
     let room = c.each_stream_is_dumped.ensures.slots S written events d leads slots k
     (omega (arith, first, begun)) in
-    let here : number_in S k ≡ number = omega (arith, first, is.1) in
+    let here : next_stream_number S k ≡ number = omega (arith, first, is.1) in
     rw here at room

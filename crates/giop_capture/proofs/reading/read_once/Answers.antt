@@ -3,15 +3,15 @@ use Rattle.std.proofs.Common.{take, arith}
 use Rattle.giop_capture.proofs.ReadingOn.{handed_once, some_given, not_end}
 use Rattle.giop_capture.proofs.reading.read_once.Goals as goal
 
-pub returns-in-Ok-hand_on-clause-does : goal.returns-in-Ok-hand_on-clause-does
-returns-in-Ok-hand_on-clause-does g c =
+pub returns-in-Ok-give_packets-clause-does : goal.returns-in-Ok-give_packets-clause-does
+returns-in-Ok-give_packets-clause-does g c =
     λ start p reads taken. (
       take c.in-Ok.given c.read.new.into,
-      handed_once c.in-Ok-hand_on.goes_on _ c.hand_on.new.capture p _ _ _
+      handed_once c.in-Ok-give_packets.goes_on _ c.give_packets.new.capture p _ _ _
           (some_given _ c.in-Ok.given c.in-Ok.ensures.read.within
           (omega (arith, c.if-given-eq0.false))) c.in-Ok.ensures.read.left
           c.in-Ok.ensures.read.failures
           (not_end c.read.new.into c.in-Ok.given _ _ (omega (arith, c.if-given-eq0.false))
           c.in-Ok.ensures.read.ends)
-          (c.in-Ok-hand_on.ensures.does start p reads taken),
+          (c.in-Ok-give_packets.ensures.does start p reads taken),
     )

@@ -1,7 +1,7 @@
 -- Each result of reading a capture, from the reads before it.
 use Rattle.std.proofs.Common.{◌+◌, ◌++◌, arith}
 use Rattle.std.proofs.lemmas.Result.{err_from_is_err_and}
-use Rattle.giop_capture.specs.Packets.{taken_of}
+use Rattle.giop_capture.specs.Packets.{capture_packets}
 use Rattle.giop_capture.proofs.ReadingOn.{one_more_read, all_after, end_after, longer, failed_after}
 use Rattle.giop_capture.proofs.reading.read_packets.Goals as goal
 
@@ -9,7 +9,8 @@ pub returns-in_err-read_once-clause-ran : goal.returns-in_err-read_once-clause-r
 returns-in_err-read_once-clause-ran g c =
     λ start taken.
     let so_far = c.loop-turn.invariant.all start taken in
-    let flushed = c.in_ok-flush.ensures.flushed start (taken_of so_far.0) so_far.1.handed.taken in
+    let flushed = c.in_ok-flush.ensures.flushed start (capture_packets so_far.0)
+    so_far.1.handed.taken in
     let once = c.in_err-read_once.ensures.does start so_far.0 so_far.1.handed.reads flushed in
     let r = err_from_is_err_and c.from_residual-in_err-read_once.result
     c.from_residual-in_err-read_once.ensures.1 in (
@@ -27,7 +28,8 @@ pub returns-then-not-branch-clause-ran : goal.returns-then-not-branch-clause-ran
 returns-then-not-branch-clause-ran g c =
     λ start taken.
     let so_far = c.loop-turn.invariant.all start taken in
-    let flushed = c.in_ok-flush.ensures.flushed start (taken_of so_far.0) so_far.1.handed.taken in
+    let flushed = c.in_ok-flush.ensures.flushed start (capture_packets so_far.0)
+    so_far.1.handed.taken in
     let once = c.in_ok-read_once.ensures.does start so_far.0 so_far.1.handed.reads flushed in (
       so_far.0 ++ once.0,
       end_after _ _ _ _ so_far.0 once.0 _ _ _ so_far.1
@@ -44,7 +46,7 @@ loop-turn-preserved g c =
     record {
       all = λ start taken.
           let so_far = c.loop-turn.invariant.all start taken in
-          let flushed = c.in_ok-flush.ensures.flushed start (taken_of so_far.0)
+          let flushed = c.in_ok-flush.ensures.flushed start (capture_packets so_far.0)
           so_far.1.handed.taken in
           let once = c.in_ok-read_once.ensures.does start so_far.0 so_far.1.handed.reads flushed in
           let more = rw c.if-not-branch.false at once.1 in (

@@ -1,5 +1,5 @@
 use Rattle.std.proofs.Common.{◌≡◌, ◌+◌, ◌-◌, length, drop, arith, ap, ◌∙◌}
-use Rattle.giop_cdr.specs.Numbers.{little}
+use Rattle.giop_cdr.specs.Numbers.{little_endian_number}
 use Rattle.giop_cdr.proofs.Spelling.{spelled_small, spelled_bound, little_more}
 use Rattle.giop_cdr.proofs.number.lightest_first.Goals as goal
 
@@ -27,7 +27,7 @@ loop-left-preserved c =
     record {
       within = omega arith;
       is = little_more xs i c.loop-left.n c.from.result (omega arith)
-          (c.loop-left.invariant.is ∙ ap (λ j. little (drop j xs)) e) c.from.ensures;
+          (c.loop-left.invariant.is ∙ ap (λ j. little_endian_number (drop j xs)) e) c.from.ensures;
       bound = rw k (spelled_bound _ c.loop-left.n c.from.result c.loop-left.invariant.bound
           (omega (arith, c.type_inv.octets i)));
     }

@@ -41,7 +41,7 @@ returns-clause-again c e rest h is =
     let frames = ap (λ (r : Record). r.frames) same in
     let behind = c.split_at-2.ensures.back ∙ ap (drop 224) c.split_at.ensures.back in (
       same,
-      c.whole_message.ensures ∙ (c.split_at-2.ensures.front
+      c.message_array.ensures ∙ (c.split_at-2.ensures.front
           ∙ (ap (take 224) c.split_at.ensures.back ∙ p.message)),
       c.split_at-3.ensures.front ∙ by_frames _ _ _ _ _ frames behind p.frames,
       c.split_at-3.ensures.back ∙ past_frames _ _ _ _ _ frames behind p.rest_is,

@@ -1,5 +1,5 @@
 use Rattle.std.proofs.Common.{◌∙◌, ◌≤◌, ◌-◌, length, ap, arith, length-drop}
-use Rattle.giop_print.specs.Output.{counted}
+use Rattle.giop_print.specs.Output.{saturating_next}
 use Rattle.giop_print.proofs.Writing.{rest_from}
 use Rattle.giop_conversation.proofs.TaggedLemmas.{tag_step_in}
 use Rattle.giop_conversation.proofs.tagged.put_tag.Goals as goal
@@ -23,4 +23,4 @@ loop-due-preserved g c =
 
 pub returns-in-Err-clause-cause : goal.returns-in-Err-clause-cause
 returns-in-Err-clause-cause g c =
-    c.in-Err.ensures.cause ∙ ap counted c.loop-due.invariant.none
+    c.in-Err.ensures.cause ∙ ap saturating_next c.loop-due.invariant.none

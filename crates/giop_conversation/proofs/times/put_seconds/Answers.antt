@@ -6,20 +6,20 @@ pub put_octets-requires : goal.put_octets-requires
 put_octets-requires c =
     let short = seconds_short c.args.nanoseconds c.ranges.nanoseconds.fits in
     let digits : length c.as_bytes.result.now ≤ 30 =
-    rw (c.as_bytes.ensures.value, c.format.ensures.text, c.seconds_of-seconds.ensures.value)
+    rw (c.as_bytes.ensures.value, c.format.ensures.text, c.split_nanoseconds-seconds.ensures.value)
     short in
-    omega (arith, digits, c.put.ensures.room, c.put_nine.ensures.room, c.requires)
+    omega (arith, digits, c.put.ensures.room, c.put_last_nine_digits.ensures.room, c.requires)
 
 pub returns-in-Err-clause-room : goal.returns-in-Err-clause-room
 returns-in-Err-clause-room c =
     let short = seconds_short c.args.nanoseconds c.ranges.nanoseconds.fits in
     let digits : length c.as_bytes.result.now ≤ 30 =
-    rw (c.as_bytes.ensures.value, c.format.ensures.text, c.seconds_of-seconds.ensures.value)
+    rw (c.as_bytes.ensures.value, c.format.ensures.text, c.split_nanoseconds-seconds.ensures.value)
     short in
     omega (
       arith,
       digits,
       c.put.ensures.room,
-      c.put_nine.ensures.room,
+      c.put_last_nine_digits.ensures.room,
       c.put_octets.ensures.room,
     )

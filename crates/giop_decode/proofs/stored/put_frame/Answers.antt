@@ -1,6 +1,6 @@
 use Rattle.std.proofs.Common.{replicate}
 use Rattle.giop_decode.proofs.StoredFields.{put_together}
-use Rattle.giop_decode.specs.Stored.{inside_octet, told_octet}
+use Rattle.giop_decode.specs.Stored.{saved_inside, saved_stage}
 use Rattle.giop_octets.specs.Fields.{four}
 use Rattle.giop_decode.proofs.stored.put_frame.Goals as goal
 
@@ -10,10 +10,10 @@ returns-clause-put c =
     rw (
       c.put_zeros.ensures.put,
       c.push-2.ensures.items,
-      c.told_octet.ensures,
+      c.saved_stage.ensures,
       c.push.ensures.items,
-      c.inside_octet.ensures,
+      c.saved_inside.ensures,
     )
     (rw (c.put_four-3.ensures.put, c.put_four-2.ensures.put, c.put_four.ensures.put)
     (put_together c.args.out.now.items (four frame.of.0) (four frame.index) (four frame.count)
-    (replicate 10 0) (inside_octet frame.inside) (told_octet frame.told)))
+    (replicate 10 0) (saved_inside frame.inside) (saved_stage frame.told)))

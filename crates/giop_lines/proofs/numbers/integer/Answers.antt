@@ -4,8 +4,8 @@ use Rattle.giop_lines.proofs.numbers.integer.Goals as goal
 
 pub returns-in-Some : goal.returns-in-Some
 returns-in-Some c =
-    integer_negative c.args.text.now c.in-Some.digits.now c.negative.result c.in-Some.ensures
-    c.negative.ensures
+    integer_negative c.args.text.now c.in-Some.digits.now c.negative_of_digits.result
+    c.in-Some.ensures c.negative_of_digits.ensures
 
 pub returns-in_ok-number-in-None : goal.returns-in_ok-number-in-None
 returns-in_ok-number-in-None c =

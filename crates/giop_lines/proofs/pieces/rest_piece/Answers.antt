@@ -7,7 +7,7 @@ use Rattle.giop_lines.proofs.pieces.rest_piece.Goals as goal
 pub returns-clause-spelled : goal.returns-clause-spelled
 returns-clause-spelled c =
     let octets = c.in_ok-offset.octets.now in
-    let are = c.if-not-are_octets.ensures refl in
+    let are = c.if-not-are_hex_octets.ensures refl in
     ap (λ (xs : List ℕ). codes "rest " ++ xs) (c.in_ok-after.ensures
     ∙ ap (λ (xs : List ℕ). 64 ∷ xs) (c.in_ok-offset.ensures
     ∙ ap (λ (xs : List ℕ). xs ++ (32 ∷ octets)) c.in_ok-ulong.ensures

@@ -3,5 +3,5 @@ use Rattle.giop_lines.proofs.texts.first_octet.Goals as goal
 
 pub returns : goal.returns
 returns c =
-    escaped_first c.args.text.now c.in_ok-after.field-0.now c.escape.result c.in_ok-after.ensures
-    c.escape.ensures
+    escaped_first c.args.text.now c.in_ok-after.field-0.now c.octet_of_escape.result
+    c.in_ok-after.ensures c.octet_of_escape.ensures

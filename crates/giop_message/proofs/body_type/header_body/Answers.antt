@@ -4,7 +4,7 @@ use Rattle.giop_print.specs.declared.path.Root.TheVariants as roots
 use Rattle.std.specs.Option.{option_and_then}
 use Rattle.giop_sig.specs.Table.{in_version}
 use Rattle.giop_message.specs.Headers.{minor}
-use Rattle.giop_message.specs.Messages.{type_if}
+use Rattle.giop_message.specs.Messages.{typed_if_some}
 use Rattle.giop_message.specs.Signatures.{request_type, signatures_of}
 use Rattle.giop_message.proofs.Starting.{named_body, request_wants, reply_wants, locate_wants, others_want}
 use Rattle.giop_message.proofs.body_type.header_body.Goals as goal
@@ -14,7 +14,7 @@ returns-then-kind_of-eq0-clause-is g c phase r keeps_noted is =
     let C = c.args.catalogue.now in
     let answer = g.Q.Correspondent.answer (g.Q.Correspondent.state c.args.correspondent.now) in
     let request = sym c.kind_of.ensures ∙ c.if-kind_of-eq0.true in
-    c.request_body.ensures.is ∙ (ap (λ o. type_if
+    c.request_body.ensures.is ∙ (ap (λ o. typed_if_some
     (option_and_then (request_type (in_version (minor c.args.header.now) C)) o)) is
     ∙ (named_body C answer phase c.args.header.now (noted_of true r) request
     ∙ sym (request_wants (signatures_of C answer phase) c.args.header.now (noted_of true r)

@@ -4,7 +4,7 @@ use Rattle.giop_message.proofs.Going.{message_goes, message_resumes}
 use Rattle.giop_message.proofs.Faults.{over_where_faulted}
 use Rattle.giop_message.proofs.Causal.{is_causal, is_ordered}
 use Rattle.giop_message.proofs.Closes.{is_closing}
-use Rattle.giop_message.proofs.Named.{is_ending, is_named, has_ids}
+use Rattle.giop_message.proofs.Named.{is_ending, is_named, signatures_have_ids}
 use Rattle.giop_message.proofs.AtOctet.{text_is, close_is}
 use Rattle.giop_message.proofs.Phased.{message_phased, ends_phased, lines_phased}
 use Rattle.giop_message.proofs.Marks.{ends_alike}
@@ -23,7 +23,7 @@ returns c = record {
   lines = λ C answers. lines_phased C answers;
   ends = λ C answers. is_ending (λ phase number. signatures_of C (answers number) phase);
   named = λ C answers. is_named (λ phase number. signatures_of C (answers number) phase)
-      (λ phase number. refl) (λ phase number. has_ids C (answers number) phase);
+      (λ phase number. refl) (λ phase number. signatures_have_ids C (answers number) phase);
   order = λ C answers. is_ordered (λ phase number. signatures_of C (answers number) phase);
   closing = λ C answers. is_closing (λ phase number. signatures_of C (answers number) phase);
   id = λ C answer. id_is_said C answer;

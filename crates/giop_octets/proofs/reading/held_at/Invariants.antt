@@ -4,6 +4,6 @@ use Rattle.giop_octets.proofs.reading.held_at.Given as goal
 
 abbrev pub invariant-loop-octet : goal.invariant-loop-octet
 invariant-loop-octet g l = record {
-  items : l.inner.items ≡ take l.octet-index (drop (l.at + 1) l.octets);
+  items : l.inner.items ≡ take l.octet-index (drop (l.offset + 1) l.octets);
   len : array_vec_len l.inner ≡ l.octet-index;
 }

@@ -16,10 +16,12 @@ returns-in_err-report-clause-did g c =
 pub returns-clause-did : goal.returns-clause-did
 returns-clause-did g c =
     let r = c.in_ok-report.ensures in
-    did_by (task_of _ _ _ _) _ _ (Ok c.in_ok-report.report) c.keep.result _ _ _ _ c.requires.of
+    did_by (task_of _ _ _ _) _ _ (Ok c.in_ok-report.report) c.save_kept_engine.result _ _ _ _
+    c.requires.of
     c.requires.read
-    r.dumped r.refused r.unwritten r.sound c.keep.ensures
+    r.dumped r.refused r.unwritten r.sound c.save_kept_engine.ensures
 
 pub returns-clause-flushed : goal.returns-clause-flushed
-returns-clause-flushed g c = kept_ok _ (Ok c.in_ok-report.report) c.keep.result _ _ _ c.keep.ensures
+returns-clause-flushed g c = kept_ok _ (Ok c.in_ok-report.report) c.save_kept_engine.result _ _ _
+    c.save_kept_engine.ensures
     c.in_ok-report.ensures.flushed

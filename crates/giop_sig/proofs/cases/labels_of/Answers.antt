@@ -1,5 +1,5 @@
 use Rattle.std.proofs.Common.{◌++◌, map, ap, ◌∙◌, arith}
-use Rattle.giop_sig.specs.UnionCases.{placed}
+use Rattle.giop_sig.specs.UnionCases.{placed_label}
 use Rattle.giop_sig.proofs.CaseLabels.{labels_step}
 use Rattle.giop_sig.proofs.cases.labels_of.Goals as goal
 
@@ -9,4 +9,4 @@ loop-index-preserved c =
     c.loop-index.labels.items c.add_labels.new.labels.items
     (omega arith) c.loop-index.invariant
     (c.in_ok-add_labels.ensures ∙ ap (λ ns. c.loop-index.labels.items
-    ++ map (placed c.loop-index.index) ns) c.deref.ensures.value)
+    ++ map (placed_label c.loop-index.index) ns) c.deref.ensures.value)

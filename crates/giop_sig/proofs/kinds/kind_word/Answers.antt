@@ -6,5 +6,5 @@ use Rattle.giop_sig.proofs.kinds.kind_word.Goals as goal
 
 pub returns-then-is_kind-clause-short : goal.returns-then-is_kind-clause-short
 returns-then-is_kind-clause-short c =
-    some_numbered (λ (xs : List ℕ). length xs ≤ 64) (λ x. x.now) c.word_of.result
-    (kind_word c.args.n) c.word_of.ensures (kind_short c.args.n)
+    some_numbered (λ (xs : List ℕ). length xs ≤ 64) (λ x. x.now) c.word_of_kind.result
+    (kind_word c.args.n) c.word_of_kind.ensures (kind_short c.args.n)

@@ -2,7 +2,7 @@ use Rattle.std.proofs.Common.{◌≡◌, ◌+◌, ◌-◌, sym, subst, arith}
 use Rattle.std.proofs.lemmas.Result.{err_from_is_err_and}
 use Rattle.giop_tokens.specs.Reading.{◌>>=◌}
 use Rattle.giop_sig.specs.ItemReading.{lengths_at}
-use Rattle.giop_sig.proofs.LengthLaws.{behind, lengths_on, lengths_end, lengths_fail, lengths_full}
+use Rattle.giop_sig.proofs.LengthLaws.{lengths_after_these, lengths_on, lengths_end, lengths_fail, lengths_full}
 use Rattle.giop_sig.proofs.read_items.lengths_at.Goals as goal
 
 pub returns-in_err-length-clause-gives : goal.returns-in_err-length-clause-gives
@@ -23,7 +23,7 @@ loop-preserved c =
     record {
       so_far =
           subst (λ ns. (lengths_at (c.args.most - (c.loop.counter + 1)) c.in_ok-length.after.now
-          >>= behind ns) ≡ lengths_at c.args.most c.args.text.now)
+          >>= lengths_after_these ns) ≡ lengths_at c.args.most c.args.text.now)
           (sym c.in_ok-push.ensures.items)
           (lengths_on c.args.most c.loop.counter c.loop.lengths.items c.loop.rest.now _
           c.loop.invariant.so_far c.loop-test.true c.in-Some.n c.in_ok-length.after.now

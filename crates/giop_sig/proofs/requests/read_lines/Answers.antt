@@ -1,9 +1,9 @@
 use Rattle.std.proofs.Common.{◌≡◌, ℕ, ◌+◌, ◌++◌, ◌∷◌, [], length, map, List, append_assoc, sym, ap, ◌∙◌, arith}
 use Rattle.std.proofs.lemmas.List.{length-append, map-append, append-nil}
 use Rattle.std.proofs.lemmas.List.Elements.{All-push}
-use Rattle.giop_sig.specs.RequestList.{lines, IsEntry, line_of, Entry, joined}
+use Rattle.giop_sig.specs.RequestList.{lines, IsEntry, line_of, Entry, merged_asked}
 use Rattle.giop_sig.specs.RequestViews.{words_view}
-use Rattle.giop_sig.proofs.ListKept.{kept_step, seen}
+use Rattle.giop_sig.proofs.ListKept.{kept_step, kept_view}
 use Rattle.giop_sig.proofs.ListOrder.{keys_step, asked_is}
 use Rattle.giop_sig.proofs.requests.read_lines.Goals as goal
 
@@ -18,22 +18,27 @@ spelled_more es e all after line is h =
 pub loop-line-preserved : goal.loop-line-preserved
 loop-line-preserved c =
     let i = c.loop-line.invariant in
-    let e : Entry = record { id = c.in-Some-entry.id; asked = words_view c.in-Some-entry.words } in
-    let h = c.in-Some-entry.ensures in
+    let e : Entry = record {
+      id = c.in-Some-line_entry.id;
+      asked = words_view
+          c.in-Some-line_entry.words;
+    } in
+    let h = c.in-Some-line_entry.ensures in
     let longer : length (i.es ++ e ∷ []) ≡ length i.es + 1 = length-append i.es (e ∷ []) in
-    let joins = c.joined-one.ensures ∙ ap (λ k. joined (seen k) e.asked) c.get.ensures.value in
+    let joins = c.merged_asked-one.ensures ∙ ap
+    (λ k. merged_asked (kept_view k) e.asked) c.get.ensures.value in
     record {
       es = i.es ++ e ∷ [];
-      entries = All-push (IsEntry c.args.third) i.es e i.entries h.0;
+      entries = All-push (IsEntry c.args.third_word) i.es e i.entries h.0;
       spelled = spelled_more i.es e _ _ c.in-Some.line.now h.1
           (i.spelled ∙ ap (λ ls. map line_of i.es ++ ls) c.in-Some.ensures.lines);
       counted = omega (arith, i.counted, longer);
       few = omega (arith, i.few);
       unique = c.in_ok-insert.ensures.unique;
-      keys = keys_step i.es e c.loop-line.asked.entries _ c.joined-one.result i.keys
+      keys = keys_step i.es e c.loop-line.asked.entries _ c.merged_asked-one.result i.keys
           c.in_ok-insert.ensures.entries;
       kept = kept_step i.es e c.loop-line.asked.entries c.insert.new.self.entries
-          c.joined-one.result joins i.kept c.in_ok-insert.ensures.updates.0;
+          c.merged_asked-one.result joins i.kept c.in_ok-insert.ensures.updates.0;
     }
 
 pub returns-clause-ok : goal.returns-clause-ok

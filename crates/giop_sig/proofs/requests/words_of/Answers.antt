@@ -12,4 +12,4 @@ returns-then-not-is_name c =
     (YieldsList-from_slice c.args.text.now cc)
     (λ x b q k. search (rules, tests)) in
     let f = rw c.in-None.is at (found is_space c.args.text.now c.position.result k) in
-    no_one_word c.args.third c.args.text.now f (λ n. false≢true (c.if-not-is_name.ensures.1 n))
+    no_one_word c.args.third_word c.args.text.now f (λ n. false≢true (c.if-not-is_name.ensures.1 n))

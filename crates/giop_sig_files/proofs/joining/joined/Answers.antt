@@ -5,24 +5,25 @@ use Rattle.std.proofs.lemmas.List.{map-append}
 use Rattle.std.proofs.Math.Seq.{drop-cons}
 use Rattle.giop_sig_files.specs.declared.places.SignatureText.{SignatureText}
 use Rattle.giop_sig_files.specs.Blocks.{blocks}
-use Rattle.giop_sig_files.specs.Joined.{once, taken, with_line_feed}
+use Rattle.giop_sig_files.specs.Joined.{block_or_line_feeds, blocks_taken, with_line_feed}
 use Rattle.giop_sig_files.proofs.joining.joined.Goals as goal
 
-abbrev texts : List SignatureText → List (List ℕ)
+abbrev texts : (fs : List SignatureText) → List (List ℕ)
 texts fs = map (λ f. f.text.items) fs
 
-abbrev items : List (Vec ℕ Global) → List (List ℕ)
+abbrev items : (bs : List (Vec ℕ Global)) → List (List ℕ)
 items bs = map (λ b. b.items) bs
 
 -- one more file
 more : (text : List ℕ) (before bs : List (List ℕ)) (f : SignatureText) (fs : List SignatureText)
     (all : List ℕ) → bs ≡ blocks f.text.items
-    → text ++ flat_map with_line_feed (taken before (texts (f ∷ fs))) ≡ all
-    → (text ++ flat_map with_line_feed (map (once before) bs))
-    ++ flat_map with_line_feed (taken (before ++ bs) (texts fs)) ≡ all
+    → text ++ flat_map with_line_feed (blocks_taken before (texts (f ∷ fs))) ≡ all
+    → (text ++ flat_map with_line_feed (map (block_or_line_feeds before) bs))
+    ++ flat_map with_line_feed (blocks_taken (before ++ bs) (texts fs)) ≡ all
 more text before bs f fs all is h =
     rw is (append_assoc text _ _ ∙ ap (λ (xs : List ℕ). text ++ xs)
-    (sym (flat_map-append with_line_feed (map (once before) (blocks f.text.items)) _)) ∙ h)
+    (sym (flat_map-append with_line_feed (map (block_or_line_feeds before) (blocks f.text.items))
+    _)) ∙ h)
 
 pub loop-file-preserved : goal.loop-file-preserved
 loop-file-preserved c =
@@ -44,7 +45,7 @@ loop-file-preserved c =
     c.in_ok-blocks.blocks.items in
     rw (
       longer,
-      c.in_ok-take_all.ensures,
+      c.in_ok-append_blocks.ensures,
       c.as_slice-in-loop-file.ensures.value,
       c.as_slice-in-loop-file-2.ensures.value,
     ) m

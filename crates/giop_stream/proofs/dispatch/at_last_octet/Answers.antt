@@ -12,12 +12,12 @@ returns-then-now-size_of-clause-does g c =
       end_here c.args.catalogue.now l c.args.slots.now c' m c.args.now h payload_count here,
       after_here c.args.catalogue.now l c.args.slots.now c' m c.args.now h payload_count here,
     )
-    (c.at_end.ensures.does l c' m h (last_here c.args.catalogue.now l c.args.slots.now c' m
+    (c.at_message_end.ensures.does l c' m h (last_here c.args.catalogue.now l c.args.slots.now c' m
     c.args.now
     h payload_count here))
 
 pub returns-then-now-size_of-clause-ready : goal.returns-then-now-size_of-clause-ready
-returns-then-now-size_of-clause-ready g c = c.at_end.ensures.room.ready _ _ c.requires.ready
+returns-then-now-size_of-clause-ready g c = c.at_message_end.ensures.room.ready _ _ c.requires.ready
 
 pub returns-clause-does : goal.returns-clause-does
 returns-clause-does g c =

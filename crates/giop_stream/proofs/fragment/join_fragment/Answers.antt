@@ -1,11 +1,11 @@
 use Rattle.std.proofs.Common.{arith, refl}
 use Rattle.giop_stream.specs.Rules.{rules_by}
 use Rattle.giop_stream.specs.Effects.{with_octet}
-use Rattle.giop_stream.specs.DoesEffect.{one_if}
+use Rattle.giop_stream.specs.DoesEffect.{count_one_if}
 use Rattle.giop_stream.proofs.SlotSteps.Performing.{performs_on, line_then, line_failed, first_failed, call_failed, then_failed, done_then, counts_as}
 use Rattle.giop_stream.proofs.SlotSteps.AtHeader.{starts_faults}
 use Rattle.giop_stream.proofs.SlotSteps.Parts.{first, second}
-use Rattle.giop_stream.proofs.SlotSteps.Continuing.{said_faults, continues_at, any', opener_at, opener_is, behind_id, starts_text, said_text, all_lines, second_does, leaves, come}
+use Rattle.giop_stream.proofs.SlotSteps.Continuing.{said_faults, continues_at, any', opener_at, opener_is, after_id, starts_text, said_text, all_lines, second_does, leaves, come}
 use Rattle.giop_stream.proofs.fragment.join_fragment.Goals as goal
 
 pub returns-in_err-start_line-clause-does : goal.returns-in_err-start_line-clause-does
@@ -36,7 +36,7 @@ returns-in_err-faulted-clause-does g c =
     let failed = c.from_residual-in_err-faulted.ensures.0 in
     let took = (first (rules_by C l s.slots.most) c' (with_octet m x)).tracked in
     let opener = opener_at C l s c' m c.args.now x c.args.found h in
-    let named = second_does C l s c' m c.args.now x c.args.found h one_if _ _ _ _
+    let named = second_does C l s c' m c.args.now x c.args.found h count_one_if _ _ _ _
     (c.in_err-faulted.ensures.does C l took _ (with_octet m x) opener.o
     (continues_at C l s c' m c.args.now x c.args.found h)
     (any' C l s c' m c.args.now x c.args.found h)
@@ -65,14 +65,14 @@ returns-in_err-ended-clause-does g c =
     let R = rules_by C l s.slots.most in
     let took = (first R c' (with_octet m x)).tracked in
     let opener = opener_at C l s c' m c.args.now x c.args.found h in
-    let named = second_does C l s c' m c.args.now x c.args.found h one_if _ _ _ _
+    let named = second_does C l s c' m c.args.now x c.args.found h count_one_if _ _ _ _
     (c.in_ok-faulted.ensures.does C l took _ (with_octet m x) opener.o
     (continues_at C l s c' m c.args.now x c.args.found h)
     (any' C l s c' m c.args.now x c.args.found h)
     (opener_is C l s c' m c.args.now x c.args.found h) opener.here) in
     let ended =
     c.in_err-ended.ensures.does l (second R c' (with_octet m x)).tracked (with_octet m x)
-    (behind_id C l s c' m c.args.now x c.args.found h _ named.kept)
+    (after_id C l s c' m c.args.now x c.args.found h _ named.kept)
     (come C l s c' m c.args.now x c.args.found h) in
     line_then c.from_residual-in_err-ended.result _ _ _ _
     (starts_text C l s c' m c.args.now x c.args.found h)
@@ -94,16 +94,16 @@ returns-clause-does g c =
     let R = rules_by C l s.slots.most in
     let took = (first R c' (with_octet m x)).tracked in
     let opener = opener_at C l s c' m c.args.now x c.args.found h in
-    let named = second_does C l s c' m c.args.now x c.args.found h one_if _ _ _ _
+    let named = second_does C l s c' m c.args.now x c.args.found h count_one_if _ _ _ _
     (c.in_ok-faulted.ensures.does C l took _ (with_octet m x) opener.o
     (continues_at C l s c' m c.args.now x c.args.found h)
     (any' C l s c' m c.args.now x c.args.found h)
     (opener_is C l s c' m c.args.now x c.args.found h) opener.here) in
     let ended =
     c.in_ok-ended.ensures.does l (second R c' (with_octet m x)).tracked (with_octet m x)
-    (behind_id C l s c' m c.args.now x c.args.found h _ named.kept)
+    (after_id C l s c' m c.args.now x c.args.found h _ named.kept)
     (come C l s c' m c.args.now x c.args.found h) in
-    counts_as _ _ _ _ (omega (arith, c.fault_count.ensures.value))
+    counts_as _ _ _ _ (omega (arith, c.count_faults.ensures.value))
     (line_then _ _ _ _ _ (starts_text C l s c' m c.args.now x c.args.found h) (starts_faults _ _)
     c.in_ok-start_line.ensures
     (performs_on _ _ _ (all_lines C l s c' m c.args.now x c.args.found h)

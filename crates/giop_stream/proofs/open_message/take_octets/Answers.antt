@@ -1,7 +1,7 @@
 use Rattle.std.proofs.Common.{◌≡◌, refl, ℕ, Bool, Some, length, take}
 use Rattle.giop_message.specs.HeaderEnds.{AgreesAtEnds, after_ends}
 use Rattle.giop_message.specs.DueOctets.{StaysUndue}
-use Rattle.giop_stream.specs.DoesEffect.{one_if}
+use Rattle.giop_stream.specs.DoesEffect.{count_one_if}
 use Rattle.giop_stream.proofs.CodeSteps.OwnerRuns.{over_takes, failed_takes, on_takes, fault_takes, fault_told}
 use Rattle.giop_stream.proofs.CodeSteps.HeaderEndSteps.{given_ends, none_ends}
 use Rattle.giop_stream.proofs.open_message.take_octets.Goals as goal
@@ -22,7 +22,7 @@ returns-in_default-clause-told g c = λ a w o k agrees.
 pub returns-in_err-count-clause-does : goal.returns-in_err-count-clause-does
 returns-in_err-count-clause-does g c = λ a w o k agrees.
     failed_takes c.args.catalogue.now a w c.args.before c.args.octets.now c.in-Some.m _ _
-    (λ (r : ℕ × Bool). r.0) (λ (r : ℕ × Bool). one_if r.1) c.from_residual.result
+    (λ (r : ℕ × Bool). r.0) (λ (r : ℕ × Bool). count_one_if r.1) c.from_residual.result
     c.from_residual.ensures.0 (Some c.take.new.self)
     (StaysUndue g.Q.Correspondent.due g.Q.Correspondent.notified c.args.catalogue.now _) _ _ o
     (rw c.in-Some.is at k)

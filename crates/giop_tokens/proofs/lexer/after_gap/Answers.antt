@@ -1,7 +1,7 @@
 use Rattle.std.proofs.Common.{◌≡◌, ◌+◌, length, get_or, drop, [], sym, ap, ◌∙◌, arith}
 use Rattle.std.proofs.Math.Seq.{drop-length}
 use Rattle.std.proofs.lemmas.List.{nil_from_length, length-drop}
-use Rattle.giop_tokens.specs.Tokens.{gap, gap_step, or_stop}
+use Rattle.giop_tokens.specs.Tokens.{after_gap, gap_step, here_or_on}
 use Rattle.giop_tokens.proofs.Gaps.{gap_at, to_end, gap_none}
 use Rattle.giop_tokens.proofs.lexer.after_gap.Goals as goal
 
@@ -12,7 +12,8 @@ returns-in-None c =
     let e = gap_at s i c.loop-i.comment c.loop-i-test.true in
     let k = sym c.in-None.is ∙ c.gap_step.ensures
     ∙ ap (gap_step c.loop-i.comment (get_or s i 0)) c.octet_at.ensures in
-    to_end i s ∙ sym (e ∙ ap (λ o. or_stop o (drop i s) (λ more. gap more (drop (i + 1) s)))
+    to_end i s ∙ sym (e ∙ ap (λ o. here_or_on o (drop i s)
+    (λ more. after_gap more (drop (i + 1) s)))
     (sym k)) ∙ c.loop-i.invariant
 
 pub loop-i-preserved : goal.loop-i-preserved
@@ -22,7 +23,7 @@ loop-i-preserved c =
     let e = gap_at s i c.loop-i.comment c.loop-i-test.true in
     let k = sym c.in-Some.is ∙ c.gap_step.ensures
     ∙ ap (gap_step c.loop-i.comment (get_or s i 0)) c.octet_at.ensures in
-    sym (e ∙ ap (λ o. or_stop o (drop i s) (λ more. gap more (drop (i + 1) s))) (sym k))
+    sym (e ∙ ap (λ o. here_or_on o (drop i s) (λ more. after_gap more (drop (i + 1) s))) (sym k))
     ∙ c.loop-i.invariant
 
 pub returns : goal.returns
@@ -31,4 +32,4 @@ returns c =
     let nil : drop c.loop-i.i s ≡ [] = nil_from_length (drop c.loop-i.i s)
     (omega (arith, length-drop c.loop-i.i s)) in
     to_end (length s) s ∙ drop-length s ∙ sym (gap_none c.loop-i.comment)
-    ∙ ap (gap c.loop-i.comment) (sym nil) ∙ c.loop-i.invariant
+    ∙ ap (after_gap c.loop-i.comment) (sym nil) ∙ c.loop-i.invariant

@@ -25,13 +25,14 @@ pub take-requires-clause-state : goal.take-requires-clause-state
 take-requires-clause-state c =
     let h = c.loop-index.invariant.0 in (
       with_packet h.0 _,
-      packet_read _ _ _ _ h.0 _ c.read.ensures.does c.read.ensures.free c.read.ensures.room
-          c.read.ensures.givers h.1,
+      packet_read _ _ _ _ h.0 _ c.begin_packet.ensures.does c.begin_packet.ensures.free
+          c.begin_packet.ensures.room
+          c.begin_packet.ensures.givers h.1,
     )
 
 pub take-requires-clause-count : goal.take-requires-clause-count
 take-requires-clause-count c =
-    let same = ap (λ (w : State). w.segments) (c.read.ensures.does []) in
+    let same = ap (λ (w : State). w.segments) (c.begin_packet.ensures.does []) in
     omega (arith, same, c.loop-index.invariant.1, c.loop-index-test.true)
 
 on_ok : {X : Type 0} (P : Type 0) (r : Result X ListenerError) → is_err r ≡ false → OnOk r P → P
@@ -41,11 +42,11 @@ on_ok P (Err f) e h = absurd (true≢false e)
 pub loop-index-preserved : goal.loop-index-preserved
 loop-index-preserved c =
     let h = c.loop-index.invariant.0 in
-    let read = packet_read _ _ _ _ h.0 _ c.read.ensures.does c.read.ensures.free
-    c.read.ensures.room c.read.ensures.givers
+    let read = packet_read _ _ _ _ h.0 _ c.begin_packet.ensures.does c.begin_packet.ensures.free
+    c.begin_packet.ensures.room c.begin_packet.ensures.givers
     h.1 in
     let taken = sym c.is_err.ensures.value ∙ c.if-is_err.false in
-    let same = ap (λ (w : State). w.segments) (c.read.ensures.does []) in
+    let same = ap (λ (w : State). w.segments) (c.begin_packet.ensures.does []) in
     let count = on_ok _ c.take.result taken c.take.ensures.count in (
       (_, on_ok _ c.take.result taken (c.take.ensures.does _ read)),
       omega (arith, same, count, c.loop-index.invariant.1),

@@ -4,13 +4,13 @@ use Rattle.tcp_flow.proofs.Chains.{some_octets, no_octets, chain_over, chain_bro
 use Rattle.tcp_flow.proofs.Lefts.{whole_tail}
 use Rattle.tcp_flow.proofs.looking.is_chain.Goals as goal
 
-pub returns-then-not-is_front : goal.returns-then-not-is_front
-returns-then-not-is_front c =
+pub returns-then-not-may_be_header : goal.returns-then-not-may_be_header
+returns-then-not-may_be_header c =
     let i = c.loop-rest.invariant in
     let xs = c.loop-rest.rest.now in
     let some = some_octets xs (sym c.is_empty.ensures ∙ c.loop-rest-test.true) in
     sym (chain_broken i.0 c.loop-rest.whole xs some i.1.0
-    (sym c.is_front.ensures ∙ c.if-not-is_front.true)) ∙ i.1.1
+    (sym c.may_be_header.ensures ∙ c.if-not-may_be_header.true)) ∙ i.1.1
 
 pub returns-in_default : goal.returns-in_default
 returns-in_default c =
@@ -18,7 +18,7 @@ returns-in_default c =
     let xs = c.loop-rest.rest.now in
     let some = some_octets xs (sym c.is_empty.ensures ∙ c.loop-rest-test.true) in
     sym (chain_cut i.0 c.loop-rest.whole xs some i.1.0
-    (sym c.is_front.ensures ∙ c.if-not-is_front.false)
+    (sym c.may_be_header.ensures ∙ c.if-not-may_be_header.false)
     (sym c.message_end.ensures.end ∙ c.in_default.is)) ∙ i.1.1
 
 pub loop-rest-preserved : goal.loop-rest-preserved
@@ -40,7 +40,7 @@ loop-rest-preserved c =
           c.in-Some.ensures.within.1,
         ),
         sym (chain_on i.0 c.loop-rest.whole xs end some i.1.0
-            (sym c.is_front.ensures ∙ c.if-not-is_front.false)
+            (sym c.may_be_header.ensures ∙ c.if-not-may_be_header.false)
             (sym c.message_end.ensures.end ∙ c.in-Some.is)) ∙ i.1.1,
       ),
     )

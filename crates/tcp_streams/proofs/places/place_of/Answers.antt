@@ -27,5 +27,5 @@ returns-then-index-flow c =
     ∙ c.if-index-flow.true))
 
 pub returns : goal.returns
-returns c = c.walk.ensures ∙ sym (place_index c.args.flow c.args.ids.now.items
+returns c = c.first_index_of.ensures ∙ sym (place_index c.args.flow c.args.ids.now.items
     (omega (arith, c.if-flow-ge-MOST_IDS.false)))

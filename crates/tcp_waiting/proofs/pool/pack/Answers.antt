@@ -1,5 +1,5 @@
 use Rattle.std.proofs.Common.{◌≡◌, ◌<◌, ◌+◌, ◌-◌, ◌++◌, length, take, arith, refl, ◌∙◌, ap}
-use Rattle.tcp_waiting.specs.Layout.{counts, octets_at}
+use Rattle.tcp_waiting.specs.Layout.{total_octets, octets_at}
 use Rattle.tcp_waiting.proofs.Held.{ok_items}
 use Rattle.tcp_waiting.proofs.Packing.{IsPacked, pack_start, next_of, pack_step, pack_end, length_places, length_copied, counts_take}
 use Rattle.tcp_waiting.proofs.Queries.{here}
@@ -61,7 +61,7 @@ loop-index-preserved c =
     let h : k < length ws =
     omega (arith, length_places all ws k now c.loop-index.waiting.items p) in
     let same = next_of all ws k now c.loop-index.waiting.items p h w c.at-here.ensures in
-    let long : length now ≡ counts (take k ws) =
+    let long : length now ≡ total_octets (take k ws) =
     length_copied all ws k now c.loop-index.waiting.items c.requires.within p in
     let n = here all ws k w c.requires.within h same in
     let m : w.from + w.count - w.from ≡ w.count = omega arith in

@@ -42,19 +42,21 @@ all_of octets start =
 pub returns-then-missing-rest-clause-reads : goal.returns-then-missing-rest-clause-reads
 returns-then-missing-rest-clause-reads c p r =
     let e = all_of c.args.octets.now c.args.start in
-    subst (λ x. Reads c.hold.new.self (p ++ x)) (sym e)
-    (takes_piece p _ c.args.octets.now c.args.self.now c.hold.new.self r c.requires.running
-    c.hold.ensures.kept
-    c.hold.ensures.taken c.hold.ensures.octets
+    subst (λ x. Reads c.hold_part_piece.new.self (p ++ x)) (sym e)
+    (takes_piece p _ c.args.octets.now c.args.self.now c.hold_part_piece.new.self r
+    c.requires.running
+    c.hold_part_piece.ensures.kept
+    c.hold_part_piece.ensures.taken c.hold_part_piece.ensures.octets
     (omega (arith, c.if-missing-rest.true, c.size.ensures))).reads
 
 pub returns-then-missing-rest-clause-answers : goal.returns-then-missing-rest-clause-answers
 returns-then-missing-rest-clause-answers c p r =
     let e = all_of c.args.octets.now c.args.start in
-    subst (λ x. Answers progress.More p x c.hold.new.self c.args.octets.now) (sym e)
-    (takes_piece p _ c.args.octets.now c.args.self.now c.hold.new.self r c.requires.running
-    c.hold.ensures.kept
-    c.hold.ensures.taken c.hold.ensures.octets
+    subst (λ x. Answers progress.More p x c.hold_part_piece.new.self c.args.octets.now) (sym e)
+    (takes_piece p _ c.args.octets.now c.args.self.now c.hold_part_piece.new.self r
+    c.requires.running
+    c.hold_part_piece.ensures.kept
+    c.hold_part_piece.ensures.taken c.hold_part_piece.ensures.octets
     (omega (arith, c.if-missing-rest.true, c.size.ensures))).answers
 
 -- the octets at the end of a piece that begins at an index, in the way that the code takes them
@@ -82,14 +84,15 @@ returns-clause-reads c p r =
     ap length (take_rest octets start) ∙ length-drop start octets in
     let within : start + count ≤ length octets =
     omega (arith, c.if-missing-rest.false, left, c.requires.some) in
-    (takes_at_once p octets end count c.args.self.now c.advance.new.self c.complete.new.self
-    c.complete.result start r
-    c.requires.running fresh whole within c.advance.ensures.advances.part
-    c.advance.ensures.advances.interfaces
-    (c.advance.ensures.advances.fault
-    ∙ c.requires.running) c.advance.ensures.advances.packets c.advance.ensures.advances.octets
+    (takes_at_once p octets end count c.args.self.now c.count_octets.new.self c.end_part.new.self
+    c.end_part.result start r
+    c.requires.running fresh whole within c.count_octets.ensures.advances.part
+    c.count_octets.ensures.advances.interfaces
+    (c.count_octets.ensures.advances.fault
+    ∙ c.requires.running) c.count_octets.ensures.advances.packets
+    c.count_octets.ensures.advances.octets
     (end_of_piece octets start count c.back-back.result _ c.back-back.ensures.value)
-    c.complete.ensures.completes).reads
+    c.end_part.ensures.completes).reads
 
 pub returns-clause-answers : goal.returns-clause-answers
 returns-clause-answers c p r =
@@ -106,11 +109,12 @@ returns-clause-answers c p r =
     ap length (take_rest octets start) ∙ length-drop start octets in
     let within : start + count ≤ length octets =
     omega (arith, c.if-missing-rest.false, left, c.requires.some) in
-    (takes_at_once p octets end count c.args.self.now c.advance.new.self c.complete.new.self
-    c.complete.result start r
-    c.requires.running fresh whole within c.advance.ensures.advances.part
-    c.advance.ensures.advances.interfaces
-    (c.advance.ensures.advances.fault
-    ∙ c.requires.running) c.advance.ensures.advances.packets c.advance.ensures.advances.octets
+    (takes_at_once p octets end count c.args.self.now c.count_octets.new.self c.end_part.new.self
+    c.end_part.result start r
+    c.requires.running fresh whole within c.count_octets.ensures.advances.part
+    c.count_octets.ensures.advances.interfaces
+    (c.count_octets.ensures.advances.fault
+    ∙ c.requires.running) c.count_octets.ensures.advances.packets
+    c.count_octets.ensures.advances.octets
     (end_of_piece octets start count c.back-back.result _ c.back-back.ensures.value)
-    c.complete.ensures.completes).answers
+    c.end_part.ensures.completes).answers

@@ -8,7 +8,8 @@ use Rattle.giop_capture.proofs.teller.TellerCaptureListener.on_fault.Goals as go
 pub returns-in-Ok-clause-does : goal.returns-in-Ok-clause-does
 returns-in-Ok-clause-does g c =
     λ events h. (
-      followed_on c.fault.new.self.slots.items events _ (c.in-Ok.ensures.follows events h.0),
+      followed_on c.write_capture_fault.new.self.slots.items events _ (c.in-Ok.ensures.follows
+          events h.0),
       λ S written begins. rw (← c.word.ensures)
           (c.in-Ok.ensures.told S written events (h.1 S written begins)),
       seen_stays events

@@ -8,7 +8,7 @@ use Rattle.giop_conversation.proofs.conversation.Conversation.read.Goals as goal
 pub returns-in-Even-clause-text : goal.returns-in-Even-clause-text
 returns-in-Even-clause-text g c = λ S k w holds ready.
     let octets = c.args.octets.now in
-    let arrival = c.args.arrival in
+    let arrival = c.args.arrival.now in
     let d = c.turn_to.new.self.even in
     let t = c.turn_to.new.self.exchange in
     let h : HoldsHalf S d k.even = rw c.turn_to.ensures.even holds.even in
@@ -28,7 +28,7 @@ returns-in-Even-clause-text g c = λ S k w holds ready.
 pub returns-in-Odd-clause-text : goal.returns-in-Odd-clause-text
 returns-in-Odd-clause-text g c = λ S k w holds ready.
     let octets = c.args.octets.now in
-    let arrival = c.args.arrival in
+    let arrival = c.args.arrival.now in
     let d = c.turn_to.new.self.odd in
     let t = c.turn_to.new.self.exchange in
     let h : HoldsHalf S d k.odd = rw c.turn_to.ensures.odd holds.odd in

@@ -43,8 +43,8 @@ returns-in-Some-clause-told g c = λ S written events told.
     (c.in-Some.ensures.variant.0 refl) c.in-Some.ensures.value in
     begun_told S written events slots.items now.out now.arrival now.first t
     now.cut c.begin.result c.args.flow c.args.start c.next_number-number.result
-    c.sum_within-self.result old c.begin.new.self c.begin.new.out c.next_number-number.ensures
-    c.sum_within-self.ensures told here
+    c.saturating_sum-self.result old c.begin.new.self c.begin.new.out c.next_number-number.ensures
+    c.saturating_sum-self.ensures told here
     (λ k. rw c.side_of.ensures at (c.begin.ensures.held S k))
     (λ k w. rw c.side_of.ensures at (c.begin.ensures.text S k w))
 
@@ -55,7 +55,7 @@ returns-in-None-clause-told g c = λ S written events told.
     let t = now.totals in
     begun_beyond S written events slots.items now.out now.arrival now.first t
     now.cut c.args.flow c.args.start
-    c.sum_within-self.result c.sum_within-self.ensures told
+    c.saturating_sum-self.result c.saturating_sum-self.ensures told
     (no_element slots.items (vec_len slots) (c.args.flow / 2) slots.ok.0
     c.in-None.ensures.variant.1)
 

@@ -35,12 +35,13 @@ returns-in-Ok-clause-told g c = λ S written events told.
     let done : Result ℕ ℕ = Ok 0 in
     closed_told S written events slots.items now.out now.arrival now.first t
     now.cut done c.args.flow c.args.cause
-    old c.close.new.self c.close.new.out c.sum_within-self.result c.sum_within-self-in-Ok.result
-    c.is_cut-self.result c.in-Ok.totals told here
+    old c.close.new.self c.close.new.out c.saturating_sum-self.result
+    c.saturating_sum-self-in-Ok.result
+    c.is_cut_after-self.result c.in-Ok.totals told here
     (λ k w. rw c.side_of.ensures at (c.in-Ok.ensures.text S k w))
     (λ k. rw c.side_of.ensures at (c.close.ensures.held S k))
     (λ k. rw c.side_of.ensures at (c.in-Ok.ensures.totals S k))
-    c.sum_within-self.ensures c.sum_within-self-in-Ok.ensures c.is_cut-self.ensures
+    c.saturating_sum-self.ensures c.saturating_sum-self-in-Ok.ensures c.is_cut_after-self.ensures
 
 pub returns-in-None-clause-told : goal.returns-in-None-clause-told
 returns-in-None-clause-told g c = λ S written events told.

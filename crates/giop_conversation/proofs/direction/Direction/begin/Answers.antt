@@ -7,14 +7,17 @@ use Rattle.giop_conversation.proofs.direction.Direction.begin.Goals as goal
 
 pub returns-clause-fails : goal.returns-clause-fails
 returns-clause-fails g c =
-    rw c.set_tag.ensures at (by_writes c.write_begin.result c.set_tag.new.self c.write_begin.new.out
-    (begin_lines c.args.self.now.flow c.args.opening) (rw (← c.self.view_is) c.write_begin.ensures))
+    rw c.set_tag.ensures at (by_writes c.write_stream_line.result c.set_tag.new.self
+    c.write_stream_line.new.out
+    (begin_lines c.args.self.now.flow c.args.opening) (rw (← c.self.view_is)
+    c.write_stream_line.ensures))
 
 pub returns-clause-text : goal.returns-clause-text
 returns-clause-text g c = λ w ready.
-    below_tag c.write_begin.result c.args.out.now c.set_tag.new.self c.write_begin.new.out w
+    below_tag c.write_stream_line.result c.args.out.now c.set_tag.new.self
+    c.write_stream_line.new.out w
     (begin_lines c.args.self.now.flow c.args.opening) c.copied.result
     (stream_tag c.args.stream) ready c.set_tag.ensures
     (c.copied.ensures ∙ c.stream_tag-self-inside.ensures)
     (begin_lines_end c.args.self.now.flow c.args.opening)
-    (rw (← c.self.view_is) c.write_begin.ensures)
+    (rw (← c.self.view_is) c.write_stream_line.ensures)

@@ -4,7 +4,7 @@ use Rattle.giop_conversation.specs.Exchanges.{answer_of}
 use Rattle.giop_message.specs.Signatures.{Answers}
 use Rattle.giop_stream.specs.EngineHolds.{HoldsBy}
 use Rattle.giop_conversation.specs.Directions.{HasRead}
-use Rattle.giop_conversation.specs.StreamReads.{AgreeWith, IsSetAlike}
+use Rattle.giop_conversation.specs.StreamReads.{AgreeWith, HasSameSetup}
 use Rattle.giop_conversation.proofs.StreamReadLemmas.{HasReadTo}
 use Rattle.giop_conversation.proofs.direction.Direction.read.Given as goal
 
@@ -22,7 +22,7 @@ invariant-loop-size g l =
           l.initial.exchange.answered ≡ None → l.initial.exchange.raised ≡ None →
           HasReadTo l.initial.self.engine l.self.engine a p l.octets l.at l.initial.exchange
           l.exchange l.initial.out l.out;
-      same : IsSetAlike l.self.engine l.initial.self.engine;
+      same : HasSameSetup l.self.engine l.initial.self.engine;
       sound : l.out.failures ≡ l.initial.out.failures;
       stream : l.self.stream ≡ l.initial.self.stream;
       live : l.self.is_live ≡ l.initial.self.is_live;

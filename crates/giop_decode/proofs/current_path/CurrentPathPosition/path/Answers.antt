@@ -13,5 +13,5 @@ returns c =
     let one : suc (23 - length outer) ≡ 24 - length outer =
     omega (arith, c.self.invariant.1) in
     rw (← c.self.view_is, c.in-Some.is) (path_switch here.head.now.root path seg _ _
-    (rw c.root.ensures at (c.go_to-path.ensures.text 0))
+    (rw c.root.ensures at (c.path_to_innermost-path.ensures.text 0))
     (rw one at (c.push_switch.ensures.text (23 - length outer))))

@@ -12,4 +12,4 @@ returns-clause-put c =
     (rw c.message.ensures at c.put_eight.ensures.put)
     c.push-3.ensures.items
     c.put_leaf.ensures.put c.put_held.ensures.put c.put_held-2.ensures.put c.put_notes.ensures.put
-    (rw c.narrow_octet.ensures at c.push-4.ensures.items)
+    (rw c.saved_forbids_wide.ensures at c.push-4.ensures.items)

@@ -9,10 +9,10 @@ use Rattle.giop_decode.proofs.decoder.Decoder.store.Goals as goal
 pub returns-then-is_full-clause-stored : goal.returns-then-is_full-clause-stored
 returns-then-is_full-clause-stored c C fits =
     let d = c.args.self.now in
-    let few = fits_few (seen d.narrow C) d fits in
+    let few = fits_few (seen d.forbids_wide C) d fits in
     absurd (grind (arith, nat_tests))
 
 pub returns-clause-depth : goal.returns-clause-depth
 returns-clause-depth c C laws fits =
     let d = c.args.self.now in
-    omega (arith, fits_depth (seen d.narrow C) d (table_seen d.narrow C laws) fits)
+    omega (arith, fits_depth (seen d.forbids_wide C) d (table_seen d.forbids_wide C laws) fits)

@@ -7,7 +7,7 @@ use Rattle.giop_decode.proofs.Noting.{keyless_piece, silent_piece, switch_noted,
 use Rattle.giop_decode.proofs.Rooms.{union_in_room}
 use Rattle.giop_sig.specs.Types.{HasShape, shape_in}
 use Rattle.giop_sig.specs.declared.types.Shape.TheVariants as shapes
-use Rattle.giop_decode.proofs.notes.Notes.note.Goals.{else-has_keys-via-then-has_keys+else-is_key, else-has_keys-via-else-has_keys}
+use Rattle.giop_decode.proofs.notes.Notes.note.Goals.{else-has_keys-via-then-has_keys+else-is_object_key, else-has_keys-via-else-has_keys}
 use Rattle.giop_decode.proofs.notes.Notes.note.Goals as goal
 
 pub switch_type-requires-clause-union : goal.switch_type-requires-clause-union
@@ -78,10 +78,10 @@ returns-else-has_keys-clause-notes c asked h here at lines held says =
     rw c.in-Octets.is at (c.shape.ensures.shapes room) in
     let k = rw c.in-Piece.is at says in
     rw (c.in-Piece.is, k) (elim c.else-has_keys.branch [
-      | else-has_keys-via-then-has_keys+else-is_key w ↦ silent_piece C asked header T path at
+      | else-has_keys-via-then-has_keys+else-is_object_key w ↦ silent_piece C asked header T path at
           c.in-Piece.offset _ c.in-Piece.more h c.args.self.now
           (λ b is. let no : shapes.Octets bound ≡ shapes.Text b = shape ∙ is in absurd cc)
-          (λ b is. sym (w.is_key.ensures.is here) ∙ w.if-is_key.false) held
+          (λ b is. sym (w.is_object_key.ensures.is here) ∙ w.if-is_object_key.false) held
       | else-has_keys-via-else-has_keys w ↦ keyless_piece C asked header T path at
           c.in-Piece.offset _ c.in-Piece.more h c.args.self.now bound has
           (sym c.has_keys.ensures.is ∙ w.if-has_keys.false)

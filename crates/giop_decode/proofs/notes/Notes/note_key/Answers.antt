@@ -1,6 +1,6 @@
 use Rattle.std.proofs.Common.{sym, ◌∙◌, ap, subst}
 use Rattle.giop_decode.specs.SeenState.{HoldsNoted}
-use Rattle.giop_decode.specs.Noted.{with_key_piece, key_ended}
+use Rattle.giop_decode.specs.Noted.{with_key_piece, with_key_ended}
 use Rattle.giop_decode.proofs.Noting.{key_both, key_last, key_more}
 use Rattle.giop_decode.proofs.notes.Notes.note_key.Goals as goal
 
@@ -13,7 +13,7 @@ returns-then-not-more-clause-notes c asked h recalls =
     (c.extend_key.ensures.notes C asked h c.requires recalls) in
     let may = sym (c.may_have_key.ensures.is C asked h recalls) ∙ c.if-not-may_have_key.false in
     subst (HoldsNoted C asked c.end_key.new.self)
-    (ap key_ended (key_both h held rest) ∙ key_last h _ c.args.more may c.if-not-more.true)
+    (ap with_key_ended (key_both h held rest) ∙ key_last h _ c.args.more may c.if-not-more.true)
     (c.end_key.ensures.notes asked (with_key_piece (with_key_piece h held) rest) both)
 
 pub returns-else-not-more-clause-notes : goal.returns-else-not-more-clause-notes

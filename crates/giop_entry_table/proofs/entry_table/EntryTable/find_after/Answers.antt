@@ -8,10 +8,10 @@ overflow_add-index g c =
     let small = c.self.inside.ids.keys.small in
     omega (arith, there, c.self.invariant.0.as_many, small)
 
-pub index_of-requires : goal.index_of-requires
-index_of-requires g c =
+pub first_index_from-requires : goal.first_index_from-requires
+first_index_from-requires g c =
     let there = rw (← c.self.view_is, length-held _ _ _ c.self.invariant.0) at c.requires in
-    rw c.as_slice.ensures.value (omega (arith, there, c.self.invariant.0.as_many))
+    omega (arith, there, c.self.invariant.0.as_many)
 
 pub returns-clause-value : goal.returns-clause-value
 returns-clause-value g c =
@@ -19,11 +19,10 @@ returns-clause-value g c =
     rw (
       ← c.self.view_is,
       position-entries-after _ _ _ c.args.key (c.args.index + 1) tied.as_many tied.held,
-      ← c.as_slice.ensures.value,
-    ) c.index_of.ensures.value
+    ) c.first_index_from.ensures.value
 
 pub returns-clause-within : goal.returns-clause-within
 returns-clause-within g c =
     let tied = c.self.invariant.0 in
-    rw (← c.self.view_is, length-held _ _ _ tied, ← tied.as_many, ← c.as_slice.ensures.value)
-    c.index_of.ensures.within
+    rw (← c.self.view_is, length-held _ _ _ tied, ← tied.as_many)
+    c.first_index_from.ensures.within

@@ -5,7 +5,7 @@ use Rattle.giop_entry_table.proofs.entry_table.EntryTable.key.Goals as goal
 
 pub returns-in-Some : goal.returns-in-Some
 returns-in-Some g c =
-    let at = rw c.deref.ensures.value at c.in-Some.ensures.lookup in
+    let at = c.in-Some.ensures.item in
     rw (
       ← c.self.view_is,
       keys-held _ _ _ c.args.index c.self.invariant.0,
@@ -14,6 +14,6 @@ returns-in-Some g c =
 
 pub returns-in-None : goal.returns-in-None
 returns-in-None g c =
-    let at = rw c.deref.ensures.value at c.in-None.ensures.lookup in
+    let at = c.in-None.ensures.item in
     rw (← c.self.view_is, keys-held _ _ _ c.args.index c.self.invariant.0)
     (sym (slice_get_past _ c.args.index at.3))

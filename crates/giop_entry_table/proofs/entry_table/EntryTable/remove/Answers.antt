@@ -10,29 +10,29 @@ remove-requires g c =
     let within = rw (← c.self.view_is, length-held _ _ _ c.self.invariant.0) at c.requires in
     omega (arith, within, c.self.invariant.0.as_many)
 
-pub remove-number-requires : goal.remove-number-requires
-remove-number-requires g c =
+pub unreachable-requires : goal.unreachable-requires
+unreachable-requires g c =
     let within = rw (← c.self.view_is, length-held _ _ _ c.self.invariant.0) at c.requires in
-    omega (arith, within)
+    cc (c.remove-2.ensures.succeeds 0 (rw c.self.inside.numbers.ok.0 within), c.in-None.is)
 
-pub remove-requires-2 : goal.remove-requires-2
-remove-requires-2 g c =
+pub remove-requires-in-Some : goal.remove-requires-in-Some
+remove-requires-in-Some g c =
     let within = rw (← c.self.view_is, length-held _ _ _ c.self.invariant.0) at c.requires in
     held-number _ _ _ c.args.index _ c.self.invariant.0 within
-    (read-at _ _ _ within c.remove-number.ensures.value)
+    (read-at _ _ _ within c.in-Some.ensures.value)
 
 pub invariant_of-self : goal.invariant_of-self
 invariant_of-self g c =
     let tied = c.self.invariant.0 in
     let room = c.self.invariant.1 in
     let within = rw (← c.self.view_is, length-held _ _ _ tied) at c.requires in
-    let number = read-at _ _ _ within c.remove-number.ensures.value in
-    let gone = c.remove-2.ensures in
-    rw (c.remove.ensures.items, c.remove-number.ensures.items) (
+    let number = read-at _ _ _ within c.in-Some.ensures.value in
+    let gone = c.remove-in-Some.ensures in
+    rw (c.remove.ensures.items, c.in-Some.ensures.items) (
       IsTied-remove _ _ _ _ c.args.index tied within (rw number at gone.updates) gone.len,
       record {
         keys_fit = omega (arith, c.remove.ensures.capacity, room.keys_fit);
-        numbers_fit = omega (arith, c.remove-number.ensures.capacity, room.numbers_fit);
+        numbers_fit = omega (arith, c.in-Some.ensures.capacity, room.numbers_fit);
         values_fit = omega (arith, gone.capacity, room.values_fit);
       },
       omega (
@@ -46,17 +46,17 @@ pub returns-clause-value : goal.returns-clause-value
 returns-clause-value g c =
     let tied = c.self.invariant.0 in
     let within = rw (← c.self.view_is, length-held _ _ _ tied) at c.requires in
-    let number = read-at _ _ _ within c.remove-number.ensures.value in
+    let number = read-at _ _ _ within c.in-Some.ensures.value in
     rw (← c.self.view_is) (ap (option_map (λ e. e.value))
-    (entry-of _ _ _ c.args.index _ _ tied within number c.remove-2.ensures.value))
+    (entry-of _ _ _ c.args.index _ _ tied within number c.remove-in-Some.ensures.value))
 
 pub returns-clause-entries : goal.returns-clause-entries
 returns-clause-entries g c =
     let tied = c.self.invariant.0 in
     let within = rw (← c.self.view_is, length-held _ _ _ tied) at c.requires in
-    let number = read-at _ _ _ within c.remove-number.ensures.value in
-    rw (← c.self.view_is, c.remove.ensures.items, c.remove-number.ensures.items)
-    (entries-taken _ _ _ _ c.args.index tied within (rw number at c.remove-2.ensures.updates))
+    let number = read-at _ _ _ within c.in-Some.ensures.value in
+    rw (← c.self.view_is, c.remove.ensures.items, c.in-Some.ensures.items)
+    (entries-taken _ _ _ _ c.args.index tied within (rw number at c.remove-in-Some.ensures.updates))
 
 pub returns-clause-len : goal.returns-clause-len
 returns-clause-len g c =

@@ -4,6 +4,7 @@ use Rattle.giop_entry_table.proofs.ids.Ids.find.Goals as goal
 
 pub returns-clause-value : goal.returns-clause-value
 returns-clause-value c =
-    let skips = position-behind (λ k. k == c.args.key) c.args.self.now.keys.items c.start.result
-    c.start.ensures.within c.start.ensures.before in
-    rw (skips, ← c.as_slice.ensures.value) c.index_of.ensures.value
+    let skips = position-behind (λ k. k == c.args.key) c.args.self.now.keys.items
+    c.search_start.result
+    c.search_start.ensures.within c.search_start.ensures.before in
+    rw skips c.first_index_from.ensures.value

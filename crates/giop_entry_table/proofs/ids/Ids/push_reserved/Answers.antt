@@ -38,8 +38,10 @@ invariant_of-self-2 c =
     let ids = c.args.self.now in
     let r = c.remainder-remainder in
     let count = read-at _ _ _ r.ensures.within c.index_mut-2.ensures.value in
-    rw (length-set ids.counts.items r.result _, count, c.push_reserved-2.ensures.items) (record {
-      indexed = indexed_push _ _ _ _ _ ids.indexed c.args.key r.result c.first.result
-          r.ensures.within r.ensures.value c.first.ensures.before c.first.ensures.within
-          c.first.type_inv;
+    let pushed = c.push_back_reserved-2.ensures.items in
+    rw (length-set ids.counts.items r.result _, count, pushed) (record {
+      indexed = indexed_push _ _ _ _ _ ids.indexed c.args.key r.result c.bound_for_remainder.result
+          r.ensures.within r.ensures.value c.bound_for_remainder.ensures.before
+          c.bound_for_remainder.ensures.within
+          c.bound_for_remainder.type_inv;
     })

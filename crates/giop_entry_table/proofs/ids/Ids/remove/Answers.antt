@@ -35,7 +35,15 @@ invariant_of-self-2 c =
     let is = r.ensures.value ∙ ap (λ k. k % length ids.counts.items)
     (read-at _ _ _ c.requires c.index.ensures) in
     let count = read-at _ _ _ r.ensures.within c.index_mut.ensures.value in
-    rw (length-set ids.counts.items r.result _, count, c.remove-2.ensures.items) (record {
+    let gone = rw (c.remove-2.ensures.succeeds 0 (rw ids.keys.ok.0 c.requires)) at
+    c.remove-2.ensures.items in
+    rw (length-set ids.counts.items r.result _, count, gone) (record {
       indexed = indexed_remove _ _ _ _ _ ids.indexed c.args.index r.result _ c.requires is
-          r.ensures.within c.saturating_add-self.ensures;
+          r.ensures.within (omega (
+            arith,
+            c.saturating_add-self.ensures,
+            c.min-moves.ensures,
+            c.len.ensures,
+            ids.keys.ok.0,
+          ));
     })

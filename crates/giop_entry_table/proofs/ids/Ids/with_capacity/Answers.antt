@@ -13,7 +13,6 @@ invariant_of-result c =
         firsts_many = length-replicate d.result 0;
         counted = λ r less. get_or-replicate {A = ℕ} d.result r 0 0 less;
         before = λ r less i here has. absurd (omega (arith, here));
-        within = λ r less. omega (arith, get_or-replicate {A = ℕ} d.result r 0 0 less);
         range = λ r less. omega (arith, get_or-replicate {A = ℕ} d.result r 0 0 less);
       };
     })

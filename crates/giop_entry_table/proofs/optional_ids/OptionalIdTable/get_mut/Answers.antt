@@ -1,7 +1,7 @@
 use Rattle.std.proofs.Common.{◌≡◌, ◌∙◌, refl, sym, ap}
 use Rattle.std.proofs.Math.Path.{fun_ext}
 use Rattle.giop_entry_table.specs.EntryTable as by_ids
-use Rattle.giop_entry_table.specs.OptionalIds.{OptionalIdEntries, revalued}
+use Rattle.giop_entry_table.specs.OptionalIds.{OptionalIdEntries, replace_value}
 use Rattle.giop_entry_table.specs.OptionalIdsView.{with_optional_ids}
 use Rattle.giop_entry_table.proofs.OptionalIdLemmas.{length-revalued, optional-revalued, value-optional}
 use Rattle.giop_entry_table.proofs.optional_ids.OptionalIdTable.get_mut.Goals as goal
@@ -19,12 +19,12 @@ returns g c =
     let lent : g.row.V.Denot → OptionalIdEntries g.row.V.Denot =
     λ w. record {
       most = table.most;
-      entries = with_optional_ids index (by_ids.revalued table.entries c.args.index w);
+      entries = with_optional_ids index (by_ids.replace_value table.entries c.args.index w);
     } in
     let written : g.row.V.Denot → OptionalIdEntries g.row.V.Denot =
     λ w. record {
       most = table.most;
-      entries = revalued (with_optional_ids index table.entries) c.args.index w;
+      entries = replace_value (with_optional_ids index table.entries) c.args.index w;
     } in
     let same : lent ≡ written = fun_ext (λ w. ap (λ es. record { most = table.most; entries = es })
     (optional-revalued index table.entries c.args.index w)) in (

@@ -9,7 +9,8 @@ remove-requires g c = rw (← c.self.view_is, length-optional) at c.requires
 pub invariant_of-self : goal.invariant_of-self
 invariant_of-self g c =
     let there = rw (← c.self.view_is, length-optional) at c.requires in
-    rw c.moved-without_id.ensures (within-removed c.self.inside.without_id c.args.index _
+    rw c.index_after_removal-without_id.ensures (within-removed c.self.inside.without_id
+    c.args.index _
     (rw c.remove.ensures.len c.self.invariant) (omega (arith, there, c.remove.ensures.len)))
 
 pub returns-clause-value : goal.returns-clause-value
@@ -20,7 +21,7 @@ returns-clause-value g c =
 pub returns-clause-entries : goal.returns-clause-entries
 returns-clause-entries g c =
     let there = rw (← c.self.view_is, length-optional) at c.requires in
-    rw (← c.self.view_is, c.remove.ensures.entries, c.moved-without_id.ensures)
+    rw (← c.self.view_is, c.remove.ensures.entries, c.index_after_removal-without_id.ensures)
     (optional-remove c.self.inside.without_id c.self.inside.table.entries c.args.index there)
 
 pub returns-clause-len : goal.returns-clause-len

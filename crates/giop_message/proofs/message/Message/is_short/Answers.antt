@@ -1,11 +1,11 @@
 use Rattle.std.proofs.Common.{ap, refl}
 use Rattle.std.specs.Prelude.{not}
-use Rattle.giop_message.specs.MessageState.{is_short}
+use Rattle.giop_message.specs.MessageState.{is_short_close}
 use Rattle.giop_message.proofs.Closing.{section_short, padding_stage, rest_stage, padding_short, rest_short}
 use Rattle.giop_message.proofs.message.Message.is_short.Goals as goal
 
 pub returns-in-Typed : goal.returns-in-Typed
-unfolding is_short
+unfolding is_short_close
 returns-in-Typed c answers phase number header s f = rw
     (section_short f c.requires c.in-Typed.is) refl
 

@@ -9,15 +9,15 @@ use Rattle.giop_message.specs.ReaderOfTable.{first_request_id}
 use Rattle.giop_message.proofs.Starting.{fit_some, none_told, none_rests, front_rests, header_first}
 use Rattle.giop_message.proofs.message.Message.restart.Goals as goal
 
-pub begin-requires-clause-some : goal.begin-requires-clause-some
-begin-requires-clause-some c =
+pub begin_section-requires-clause-some : goal.begin_section-requires-clause-some
+begin_section-requires-clause-some c =
     fit_some (tree (in_version (minor c.args.header) c.args.catalogue.now) c.in-Some.of.0)
     (rw (← c.minor_of-minor.ensures, ← c.in_version.ensures) c.in-Some.ensures.fit)
 
 pub returns-in-Some-clause-follows : goal.returns-in-Some-clause-follows
 unfolding signatures_of
 returns-in-Some-clause-follows c answers phase counted =
-    let e = c.begin.ensures in
+    let e = c.begin_section.ensures in
     let version = ap (λ (t : Table). t.version) c.in_version.ensures in
     let found : header_type c.args.catalogue.now.version (minor c.args.header) (kind c.args.header)
     ≡ Some (tree (in_version (minor c.args.header) c.args.catalogue.now) c.in-Some.of.0) =

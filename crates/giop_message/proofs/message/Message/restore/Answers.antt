@@ -1,6 +1,6 @@
 use Rattle.std.proofs.Common.{[], List, ℕ, Some, sym, ap, subst, ◌∙◌, append-nil, arith}
 use Rattle.giop_message.specs.Headers.{minor}
-use Rattle.giop_message.specs.Stored.{kept_id, PartStored, GoesOn}
+use Rattle.giop_message.specs.Stored.{stored_id, PartStored, PartGoesOn}
 use Rattle.giop_message.proofs.Storing.{there, not_both, behind_own, of_own, both, own_fields, same_own, goes_on, kept_again, id_on, stands_on}
 use Rattle.giop_message.proofs.message.Message.restore.Goals as goal
 
@@ -12,12 +12,13 @@ returns-then-not-is_after_header-clause-again c m fits same stored =
     let behind = c.is_after_header.ensures.1 (omega (arith, m.begun)) in
     absurd (not_both c.if-not-is_after_header.true behind)
 
-pub returns-then-not-is_lack-clause-again : goal.returns-then-not-is_lack-clause-again
-returns-then-not-is_lack-clause-again c m fits same stored =
+pub returns-then-not-is_possible_lack-clause-again :
+    goal.returns-then-not-is_possible_lack-clause-again
+returns-then-not-is_possible_lack-clause-again c m fits same stored =
     let fields = own_fields m c.args.fixed.now stored.own in
     let lacks = c.octet_at-lacks.ensures _ _ fields.lacks in
-    let few = c.is_lack.ensures.1 (omega (arith, m.few, lacks)) in
-    absurd (not_both c.if-not-is_lack.true few)
+    let few = c.is_possible_lack.ensures.1 (omega (arith, m.few, lacks)) in
+    absurd (not_both c.if-not-is_possible_lack.true few)
 
 pub returns-in_default-clause-again : goal.returns-in_default-clause-again
 returns-in_default-clause-again c m fits same_header stored =
@@ -26,7 +27,7 @@ returns-in_default-clause-again c m fits same_header stored =
     let version = c.minor_of.ensures ∙ ap minor (sym same_header) in
     let on = goes_on c.args.catalogue.now m _ _ _ _ _ _ _ fits stored
     c.eight_at-at.ensures c.octet_at.ensures octets version c.restore.ensures.again in
-    absurd (there (λ p. GoesOn c.args.catalogue.now m.decoder m.part p.1 p.0) _ on
+    absurd (there (λ p. PartGoesOn c.args.catalogue.now m.decoder m.part p.1 p.0) _ on
     c.in_default.not-Some)
 
 pub returns-then-not-same-clause-again : goal.returns-then-not-same-clause-again
@@ -44,7 +45,7 @@ returns-then-not-same-clause-again c m fits same_header stored =
     (c.eight_at-at.ensures m.at _ stored.own.at fields.at)
     (c.octet_at-lacks.ensures _ _ fields.lacks)
     (c.in-Some.ensures.octet ∙ c.octet_at.ensures _ _ fields.part)
-    (ap (kept_id c.in-Some.part) id ∙ kept_again _ _ _ m.part c.in-Some.part m.id on) in
+    (ap (stored_id c.in-Some.part) id ∙ kept_again _ _ _ m.part c.in-Some.part m.id on) in
     let same = c.same.ensures.1 (c.own_octets.ensures.is ∙ is ∙ sym stored.own.is ∙ sym own) in
     absurd (not_both c.if-not-same.true same)
 

@@ -2,7 +2,7 @@ use Rattle.std.proofs.Common.{◌≡◌, ◌*◌, ◌++◌, ℕ, List, length, t
 use Rattle.std.proofs.lemmas.List.{drop_at, take_at}
 use Rattle.giop_decode.specs.Stored.{frame_size}
 use Rattle.giop_message.specs.Headers.{minor}
-use Rattle.giop_message.specs.Stored.{IsOwnOf, PartStored}
+use Rattle.giop_message.specs.Stored.{AreOwnOctets, PartStored}
 use Rattle.giop_message.proofs.Storing.{own_long}
 use Rattle.giop_message.proofs.message.Message.store.Goals as goal
 
@@ -23,7 +23,7 @@ returns-clause-stored c C fits =
     let behind = ap (drop 16) both ∙ drop_at own part 16 long in
     let stored = c.store-count.ensures.stored C (minor m.header) m.at fits in
     record {
-      own = subst (λ (xs : List ℕ). IsOwnOf xs m) (sym front) c.own_octets-own.ensures;
+      own = subst (λ (xs : List ℕ). AreOwnOctets xs m) (sym front) c.own_octets-own.ensures;
       part = subst (λ (xs : List ℕ). PartStored m.decoder m.part xs frames) (sym behind) stored;
     }
 

@@ -4,7 +4,7 @@ use Rattle.giop_message.specs.Phases.{Phase}
 use Rattle.giop_message.specs.Signatures.{Answers, signatures_of}
 use Rattle.giop_message.specs.HeaderEnds.{AgreesAtEnds, header_ends, after_ends}
 use Rattle.giop_message.specs.DueOctets.{StaysUndue}
-use Rattle.giop_message.specs.MessageState.{AreKnown, Fits, Follows, due_text}
+use Rattle.giop_message.specs.MessageState.{AreKnown, Fits, Follows, more_lines_text}
 use Rattle.giop_message.proofs.message.Message.take.Given as goal
 
 abbrev pub invariant-loop-taken : goal.invariant-loop-taken
@@ -27,7 +27,8 @@ invariant-loop-taken g l =
           (g.Q.Correspondent.state l.initial.correspondent)
           answers (header_ends phase number header s l.octets) →
           Wrote (g.O.Out.log l.initial.out) (g.O.Out.log l.out)
-          (due_text (signatures_of l.catalogue (answers number) phase) number l.place header s
+          (more_lines_text (signatures_of l.catalogue (answers number) phase) number l.place header
+          s
           (take l.taken l.octets));
       calm : g.Q.Correspondent.due (g.Q.Correspondent.state l.initial.correspondent) ≡ false →
           g.Q.Correspondent.due (g.Q.Correspondent.state l.correspondent) ≡ false;

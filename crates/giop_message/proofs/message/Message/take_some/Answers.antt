@@ -8,7 +8,7 @@ use Rattle.giop_message.specs.declared.part.Part.{Part}
 use Rattle.giop_message.specs.declared.part.Part.TheVariants as parts
 use Rattle.giop_message.specs.declared.part.Section.{Section}
 use Rattle.giop_message.specs.Messages.{root_of}
-use Rattle.giop_message.specs.MessageSteps.{Ended}
+use Rattle.giop_message.specs.MessageSteps.{HasEndedSection}
 use Rattle.giop_message.specs.HeaderEnds.{header_ends, after_ends}
 use Rattle.giop_message.proofs.Followings.{same_fields}
 use Rattle.giop_message.proofs.Rests.{no_text, rest_text, rest_follows}
@@ -18,9 +18,10 @@ use Rattle.giop_message.proofs.message.Message.take_some.Goals as goal
 
 -- a section that has just ended is still the part of the message
 ended_in : (C : Table) (d : Decoder) (section : Section) (r : Read) {part : Part} →
-    part ≡ parts.Typed section → KeepsNoted C (root_of section) d r → Ended C d part section r
+    part ≡ parts.Typed section → KeepsNoted C (root_of section) d r →
+    HasEndedSection C d part section r
 ended_in C d section r is keeps_noted =
-    subst (λ p. Ended C d p section r) (sym is) (refl, keeps_noted)
+    subst (λ p. HasEndedSection C d p section r) (sym is) (refl, keeps_noted)
 
 pub returns-in_err-taken-in-Typed-clause-writes : goal.returns-in_err-taken-in-Typed-clause-writes
 returns-in_err-taken-in-Typed-clause-writes g c answers phase number header s f =
@@ -46,31 +47,34 @@ returns-in-More-clause-took g c answers phase number header s f agrees =
     (record { number = refl; header = refl; at = refl; lacks = refl }) refl
     c.in-Typed.is refl
 
-pub returns-in_err-call-in-Named-clause-writes : goal.returns-in_err-call-in-Named-clause-writes
-returns-in_err-call-in-Named-clause-writes g c answers phase number header s f =
+pub returns-in_err-write_call_line-in-Named-clause-writes :
+    goal.returns-in_err-write_call_line-in-Named-clause-writes
+returns-in_err-write_call_line-in-Named-clause-writes g c answers phase number header s f =
     let t = standing f c.in-Typed.is c.requires.fits in
     let ran = c.in_ok-taken-in-Typed.ensures in
     let k = took t c.args.octets.now c.in_ok-taken-in-Typed.taken ran.within
     (ran.some c.requires.some) (by_reads t ran.takes) c.in-Named.is in
-    let called = c.in_err-call-in-Named.ensures (answers number) phase
+    let called = c.in_err-write_call_line-in-Named.ensures (answers number) phase
     (ReadWith t (take c.in_ok-taken-in-Typed.taken c.args.octets.now)) (keeps_noted_header k) in
-    failed_front c.from_residual-in_err-call-in-Named.result c.args.place
-    c.from_residual-in_err-call-in-Named.ensures.0 k (text_named k c.args.place)
+    failed_front c.from_residual-in_err-write_call_line-in-Named.result c.args.place
+    c.from_residual-in_err-write_call_line-in-Named.ensures.0 k (text_named k c.args.place)
     (by_reads t ran.writes) called
 
-pub returns-in_ok-call-in-Named-clause-writes : goal.returns-in_ok-call-in-Named-clause-writes
-returns-in_ok-call-in-Named-clause-writes g c answers phase number header s f =
+pub returns-in_ok-write_call_line-in-Named-clause-writes :
+    goal.returns-in_ok-write_call_line-in-Named-clause-writes
+returns-in_ok-write_call_line-in-Named-clause-writes g c answers phase number header s f =
     let t = standing f c.in-Typed.is c.requires.fits in
     let ran = c.in_ok-taken-in-Typed.ensures in
     let k = took t c.args.octets.now c.in_ok-taken-in-Typed.taken ran.within
     (ran.some c.requires.some) (by_reads t ran.takes) c.in-Named.is in
-    let called = c.in_ok-call-in-Named.ensures (answers number) phase
+    let called = c.in_ok-write_call_line-in-Named.ensures (answers number) phase
     (ReadWith t (take c.in_ok-taken-in-Typed.taken c.args.octets.now)) (keeps_noted_header k) in
     took_front _ c.args.place _ _ refl k (rw (text_named k c.args.place)
     (wrote-append _ _ _ _ _ (by_reads t ran.writes) called))
 
-pub returns-in_ok-call-in-Named-clause-took : goal.returns-in_ok-call-in-Named-clause-took
-returns-in_ok-call-in-Named-clause-took g c answers phase number header s f agrees =
+pub returns-in_ok-write_call_line-in-Named-clause-took :
+    goal.returns-in_ok-write_call_line-in-Named-clause-took
+returns-in_ok-write_call_line-in-Named-clause-took g c answers phase number header s f agrees =
     let t = standing f c.in-Typed.is c.requires.fits in
     let ran = c.in_ok-taken-in-Typed.ensures in
     let k = took t c.args.octets.now c.in_ok-taken-in-Typed.taken ran.within
@@ -93,7 +97,7 @@ returns-in-Done-clause-took g c answers phase number header s f agrees =
     let ran = c.in_ok-taken-in-Typed.ensures in
     let k = took t c.args.octets.now c.in_ok-taken-in-Typed.taken ran.within
     (ran.some c.requires.some) (by_reads t ran.takes) c.in-Done.is in
-    let e = c.leave.ensures in
+    let e = c.end_section.ensures in
     let xs = take c.in_ok-taken-in-Typed.taken c.args.octets.now in
     went_done k _ _ (record { number = refl; header = refl; at = refl; lacks = refl }) refl
     (e.arrives answers phase number header (s ++ xs) c.in-Typed.field-0 (ReadWith t xs)
@@ -208,8 +212,9 @@ returns-in-More-clause-told g c answers phase number header s f =
     sym (ap (after_ends g.Q.Correspondent.notified c.args.catalogue.now
     (g.Q.Correspondent.state c.args.correspondent.now)) (none_ends k tt))
 
-pub returns-in_ok-call-in-Named-clause-told : goal.returns-in_ok-call-in-Named-clause-told
-returns-in_ok-call-in-Named-clause-told g c answers phase number header s f =
+pub returns-in_ok-write_call_line-in-Named-clause-told :
+    goal.returns-in_ok-write_call_line-in-Named-clause-told
+returns-in_ok-write_call_line-in-Named-clause-told g c answers phase number header s f =
     let t = standing f c.in-Typed.is c.requires.fits in
     let ran = c.in_ok-taken-in-Typed.ensures in
     let k = took t c.args.octets.now c.in_ok-taken-in-Typed.taken ran.within
@@ -226,7 +231,7 @@ returns-in-Done-clause-told g c answers phase number header s f =
     let xs = take c.in_ok-taken-in-Typed.taken c.args.octets.now in
     told_here g.Q.Correspondent.answer g.Q.Correspondent.notified
     (g.Q.Correspondent.state c.args.correspondent.now) _ k
-    (c.leave.ensures.told c.in-Typed.field-0 (ReadWith t xs)
+    (c.end_section.ensures.told c.in-Typed.field-0 (ReadWith t xs)
     (ended_in c.args.catalogue.now c.take_run.new.self c.in-Typed.field-0 (ReadWith t xs)
     c.in-Typed.is
     k.takes.keeps_noted))

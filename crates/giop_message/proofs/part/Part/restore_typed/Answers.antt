@@ -6,7 +6,7 @@ use Rattle.giop_message.specs.declared.part.Part.TheVariants as parts
 use Rattle.giop_message.specs.declared.part.Section.{Section}
 use Rattle.giop_message.specs.declared.part.Section.TheVariants as sections
 use Rattle.giop_message.specs.MessageState.{FitsVersion, FitsPart}
-use Rattle.giop_message.specs.Stored.{section_octet, part_octet, PartStored, GoesOn, ReadsOn}
+use Rattle.giop_message.specs.Stored.{section_octet, part_octet, PartStored, PartGoesOn, ReadsOn}
 use Rattle.giop_sig.specs.Table.{Table}
 use Rattle.giop_message.proofs.part.Part.restore_typed.Goals as goal
 
@@ -38,7 +38,7 @@ again : (C : Table) (minor : ℕ) (section : Section) (e : Decoder) (octets fram
     ((d : Decoder) → FitsVersion C minor d → decoders.Stored d octets frames → ReadsOn C d e) →
     (at : ℕ) (d : Decoder) (p : Part) → FitsPart C minor at d p →
     part_octet p ≡ section_octet section → PartStored d p octets frames →
-    GoesOn C d p e (parts.Typed section)
+    PartGoesOn C d p e (parts.Typed section)
 again C minor section e octets frames reads at d (parts.Typed own) fits octet stored =
     (same own section octet, reads d fits stored)
 again C minor section e octets frames reads at d (parts.Padding body_type_id) fits octet stored =

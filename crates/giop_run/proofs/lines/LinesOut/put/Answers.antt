@@ -1,7 +1,7 @@
 use Rattle.std.proofs.Common.{length, arith, refl}
 use Rattle.std.proofs.KnownBytes.{append_known-grown, Keeps-refl}
 use Rattle.std.proofs.lemmas.List.{take_all}
-use Rattle.giop_run.specs.Buffered.{lines_log, lines_kept}
+use Rattle.giop_run.specs.Buffered.{lines_log, lines_kept_back}
 use Rattle.giop_run.proofs.PutLemmas.{one_more_recent}
 use Rattle.giop_run.proofs.lines.LinesOut.put.Goals as goal
 
@@ -14,7 +14,7 @@ returns g c =
       within = omega arith;
       written = rw (take_all (length octets) octets (omega arith)) (append_known-grown
           (lines_log g.W.Write.contents old).written (g.W.Write.contents old.writer)
-          (lines_kept old) _ octets
+          (lines_kept_back old) _ octets
           (Keeps-refl (lines_log g.W.Write.contents old).written) c.add_put.ensures.octets);
       puts = rw c.add_put.ensures.recent (one_more_recent old.puts old.buffer.recent);
       failures = refl;

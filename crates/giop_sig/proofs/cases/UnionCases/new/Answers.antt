@@ -1,5 +1,5 @@
 use Rattle.std.proofs.Common.{◌≡◌, true, map, subst}
-use Rattle.giop_sig.specs.UnionCases.{case_view, Rise, AreLabels}
+use Rattle.giop_sig.specs.UnionCases.{case_view, KeysRise, AreLabels}
 use Rattle.giop_sig.proofs.CaseLabels.{in_any_order}
 use Rattle.giop_sig.proofs.cases.UnionCases.new.Goals as goal
 
@@ -11,6 +11,6 @@ invariant_of-result c =
     record {
       labels = in_any_order (map case_view c.args.cases.items) c.in_ok-labels.labels.items sorted
           c.sort_unstable_by_key.ensures.permutation all;
-      order = subst (λ ls. c.rise-rises.result ≡ true → Rise ls) c.deref-2.ensures.value
-          c.rise-rises.ensures;
+      order = subst (λ ls. c.keys_rise-rises.result ≡ true → KeysRise ls) c.deref-2.ensures.value
+          c.keys_rise-rises.ensures;
     }

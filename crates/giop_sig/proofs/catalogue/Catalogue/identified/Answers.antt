@@ -6,20 +6,20 @@ use Rattle.giop_sig.proofs.catalogue.Catalogue.identified.Goals as goal
 
 pub returns-in_err-key-clause-is : goal.returns-in_err-key-clause-is
 returns-in_err-key-clause-is c =
-    let long = rw c.in_err-key.was at c.key_of.ensures in
+    let long = rw c.in_err-key.was at c.name_if_short.ensures in
     c.from_residual.ensures ∙ no_identity_long c.args.self.now c.args.repository.now
     (subst IsTable c.self.view_is c.self.invariant) long
 
 pub returns-in_err-identity-clause-is : goal.returns-in_err-identity-clause-is
 returns-in_err-identity-clause-is c =
-    let key = rw c.in_ok-key.was at c.key_of.ensures in
+    let key = rw c.in_ok-key.was at c.name_if_short.ensures in
     c.from_residual-in_err-identity.ensures ∙ identity_none c.self.inside.identities.entries
     c.args.self.now c.in_ok-key.key.items c.args.repository.now
     (ap (λ (t : Table). t.identities) c.self.view_is) key c.in_err-identity.ensures.index
 
 pub returns-clause-is : goal.returns-clause-is
 returns-clause-is c =
-    let key = rw c.in_ok-key.was at c.key_of.ensures in
+    let key = rw c.in_ok-key.was at c.name_if_short.ensures in
     identity_found c.self.inside.identities.entries c.args.self.now c.in_ok-key.key.items
     c.args.repository.now c.in_ok-identity.identity.0
     (c.in_ok-identity.identity.1.now, c.in_ok-identity.identity.2.now)

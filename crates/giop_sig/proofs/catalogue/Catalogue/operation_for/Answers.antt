@@ -7,8 +7,8 @@ overflow_add-interface c =
     let few = c.laws.ensures.interfaces_few in
     omega arith
 
-pub keyed-requires : goal.keyed-requires
-keyed-requires c =
+pub operation_in_interface-requires : goal.operation_in_interface-requires
+operation_in_interface-requires c =
     let known = rw c.in-Some.is at c.requires in
     let few = c.laws.ensures.interfaces_few in
     omega arith

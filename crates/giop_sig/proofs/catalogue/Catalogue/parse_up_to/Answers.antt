@@ -1,5 +1,5 @@
 use Rattle.std.proofs.Common.{length, sym, ap, subst, ◌∙◌, inr, arith}
-use Rattle.giop_sig.specs.Outcomes.{Stops}
+use Rattle.giop_sig.specs.Outcomes.{StopsAsRead}
 use Rattle.giop_sig.specs.FileReading.{file_at}
 use Rattle.giop_sig.specs.Validity.{Refuses}
 use Rattle.giop_sig.proofs.FileLaws.{file_takes, file_shallow}
@@ -32,7 +32,7 @@ returns-in-Ok-clause-few c =
 
 pub returns-in-Err-Refused-clause-err : goal.returns-in-Err-Refused-clause-err
 returns-in-Err-Refused-clause-err c = λ file spells.
-    let e = subst (λ stop. Stops stop
+    let e = subst (λ stop. StopsAsRead stop
     (file_at c.args.latest c.args.text.now)) c.in-Err-Refused.field-0-is
     c.in-Err-Refused.ensures.gives in
     subst (λ f. Refuses f.kind file) (sym c.fault_in.ensures)
@@ -40,7 +40,7 @@ returns-in-Err-Refused-clause-err c = λ file spells.
 
 pub returns-in-Err-Refused-clause-first : goal.returns-in-Err-Refused-clause-first
 returns-in-Err-Refused-clause-first c = λ short.
-    let e = subst (λ stop. Stops stop
+    let e = subst (λ stop. StopsAsRead stop
     (file_at c.args.latest c.args.text.now)) c.in-Err-Refused.field-0-is
     c.in-Err-Refused.ensures.gives in
     inr (c.in-Err-Refused.refusal, e, c.fault_in.ensures)

@@ -5,9 +5,9 @@ use Rattle.giop_sig.proofs.catalogue.Catalogue.seen.Goals as goal
 
 pub invariant_of-result : goal.invariant_of-result
 invariant_of-result c = record {
-  table = seen_table c.args.narrow c.args.self.now c.laws.ensures;
+  table = seen_table c.args.forbids_wide c.args.self.now c.laws.ensures;
   entries = c.entries.ensures ∙ ap (λ (t : Table). t.types) c.self.view_is;
 }
 
 pub returns-clause-own : goal.returns-clause-own
-returns-clause-own c e = seen_own _ c.args.self.now c.args.narrow refl c.self.view_is e
+returns-clause-own c e = seen_own _ c.args.self.now c.args.forbids_wide refl c.self.view_is e

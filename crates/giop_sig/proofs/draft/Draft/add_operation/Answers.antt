@@ -14,9 +14,9 @@ returns-clause-added c =
     draft_table i.version _ _ _ i.names.entries i.announced.entries c.args.self.now c.self.view_is
     (operation_put (table_view i.version i.types i.operations.entries i.exceptions.entries
     i.declared i.called i.interfaces i.identities.entries i.fronts.keys) i.operations.entries
-    c.insert.new.self.entries c.args.self.now.table c.call_key-key.result c.args.signature
+    c.insert.new.self.entries c.args.self.now.table c.operation_key-key.result c.args.signature
     (operation_key c.args.interface c.args.name.now) refl
-    (ap (λ (s : Scope). s.table) c.self.view_is) c.call_key-key.ensures
+    (ap (λ (s : Scope). s.table) c.self.view_is) c.operation_key-key.ensures
     c.requires.new c.in_ok-insert.ensures.entries)
 
 pub invariant_of-self-2 : goal.invariant_of-self-2
@@ -27,9 +27,9 @@ invariant_of-self-2 c =
     c.self.view_is
     (operation_put (table_view i.version i.types i.operations.entries i.exceptions.entries
     i.declared i.called i.interfaces i.identities.entries i.fronts.keys) i.operations.entries
-    c.insert.new.self.entries c.args.self.now.table c.call_key-key.result c.args.signature
+    c.insert.new.self.entries c.args.self.now.table c.operation_key-key.result c.args.signature
     (operation_key c.args.interface c.args.name.now) refl
-    (ap (λ (s : Scope). s.table) c.self.view_is) c.call_key-key.ensures
+    (ap (λ (s : Scope). s.table) c.self.view_is) c.operation_key-key.ensures
     c.requires.new c.in_ok-insert.ensures.entries) in
     subst IsDraft (sym put) (record {
       scope = record {

@@ -48,4 +48,4 @@ returns-clause-added c =
     c.self-2.view_is key.0 new c.in_ok-insert.ensures.entries
     ∙ ap (with_announced c.args.word c.args.name.now) (sym added)
     ∙ ap (λ n. with_announced c.args.word c.args.name.now
-    (with_node c.args.self.now (nodes.announced n))) c.announcements-index.ensures
+    (with_node c.args.self.now (nodes.announced n))) c.announcement_count-index.ensures

@@ -1,6 +1,6 @@
 use Rattle.std.proofs.Common.{sym, ap, ◌∙◌}
 use Rattle.std.specs.Option.{is_some}
-use Rattle.giop_sig.specs.Table.{op_id, operation_key, keyed_number}
+use Rattle.giop_sig.specs.Table.{op_id, operation_key, operation_number_of_key}
 use Rattle.giop_sig.specs.Scopes.{Scope}
 use Rattle.giop_sig.proofs.Finds.{operation_found}
 use Rattle.giop_sig.proofs.ScopeLaws.{some_map}
@@ -11,7 +11,7 @@ returns c =
     let name = operation_key c.args.interface c.args.name.now in
     c.is_some.ensures ∙ sym (some_map op_id c.get_index_of.result)
     ∙ ap is_some (operation_found c.self.inside.operations.entries c.args.self.now.table
-    c.call_key-key.result.items name c.get_index_of.result
-    (ap (λ (s : Scope). s.table.operations) c.self.view_is) c.call_key-key.ensures
+    c.operation_key-key.result.items name c.get_index_of.result
+    (ap (λ (s : Scope). s.table.operations) c.self.view_is) c.operation_key-key.ensures
     c.get_index_of.ensures.index)
-    ∙ some_map op_id (keyed_number c.args.self.now.table name)
+    ∙ some_map op_id (operation_number_of_key c.args.self.now.table name)

@@ -7,9 +7,9 @@ invariant_of-self-2 c =
     c.max-self-inside.result
     (record {
       entry = c.args.entry;
-      depth = c.depth_above-depth.result;
-      wide = c.wide_above-wide.result;
+      depth = c.entry_depth-depth.result;
+      wide = c.entry_has_wide_text-wide.result;
     })
     c.args.self.now c.self.invariant c.self.view_is c.requires.few c.requires.formed
-    c.depth_above-depth.ensures c.wide_above-wide.ensures c.in_ok-push.ensures.items
+    c.entry_depth-depth.ensures c.entry_has_wide_text-wide.ensures c.in_ok-push.ensures.items
     c.max-self-inside.ensures

@@ -1,12 +1,12 @@
 use Rattle.std.proofs.Common.{◌∙◌, ap, sym, subst}
 use Rattle.giop_sig.specs.Interfaces.{Interfaces}
-use Rattle.giop_sig.specs.InterfaceViews.{AreKept}
+use Rattle.giop_sig.specs.InterfaceViews.{AreInterfacesKept}
 use Rattle.giop_sig.proofs.InterfaceLaws.{name_found, long_name}
 use Rattle.giop_sig.proofs.interfaces.InterfaceTable.named.Goals as goal
 
 pub returns-then-id-gt-ID_MAX-clause-is : goal.returns-then-id-gt-ID_MAX-clause-is
 returns-then-id-gt-ID_MAX-clause-is c =
-    let is = subst (AreKept c.self.inside.sizes) c.self.view_is c.self.invariant in
+    let is = subst (AreInterfacesKept c.self.inside.sizes) c.self.view_is c.self.invariant in
     long_name c.args.self.now c.args.id.now is.short c.if-id-gt-ID_MAX.true
 
 pub returns-in_err-index-clause-is : goal.returns-in_err-index-clause-is

@@ -1,5 +1,5 @@
 use Rattle.std.proofs.Common.{◌∙◌, ap, subst, sym}
-use Rattle.giop_sig.specs.Views.{IsSized, node_view}
+use Rattle.giop_sig.specs.Views.{HasCountableParts, node_view}
 use Rattle.giop_sig.specs.declared.entries.EntryWithDepth.{EntryWithDepth}
 use Rattle.giop_sig.proofs.Tables.{seen_node, seen_index, seen_sized}
 use Rattle.giop_sig.proofs.seen.SeenCatalogue.entry.Goals as goal
@@ -17,6 +17,6 @@ returns-clause-node c =
 
 pub returns-clause-sized : goal.returns-clause-sized
 returns-clause-sized c =
-    subst (λ (p : EntryWithDepth). IsSized p.entry) c.index-self-t.is
+    subst (λ (p : EntryWithDepth). HasCountableParts p.entry) c.index-self-t.is
     (seen_sized _ c.args.self.now c.self.inside.entries.now c.args.t.0 c.index-self-t.result
     c.self.invariant c.self.view_is c.requires c.index-self-t.is)

@@ -36,7 +36,7 @@ returns-in-Ok-clause-held g c a p h agrees =
     record {
       sound = held.sound;
       octets = All-append (λ x. x < 256) p xs held.octets octets;
-      shows = subst (λ (n : ℕ). Shows C a (framing_view c.steps.new.self)
+      shows = subst (λ (n : ℕ). Shows C a (framing_view c.take_piece.new.self)
           (state_of (rules_by C a n) (p ++ xs))) (sym c.in-Ok.ensures.most) now;
     }
 
@@ -86,7 +86,7 @@ returns-in-Ok-clause-begun g c a p h agrees =
     c.begun_since.ensures
     ∙ rw (
       messages_at C a most (state_of R p) reached (framing_view c.self.inside.framing) held.shows,
-      messages_at C a most (state_of R (p ++ xs)) after (framing_view c.steps.new.self) now,
+      messages_at C a most (state_of R (p ++ xs)) after (framing_view c.take_piece.new.self) now,
     ) refl
 
 pub returns-in-Ok-clause-text : goal.returns-in-Ok-clause-text

@@ -18,5 +18,5 @@ returns-clause-holds c =
       shows =
           rw (start_is (rules C l c.in-Ok.framing.slots.slots.most))
           (c.in-Ok.ensures.shows C (by_list l) c.in-Ok.framing.slots.slots.most
-          c.joins.ensures);
+          c.joins_1_1.ensures);
     }

@@ -14,5 +14,5 @@ returns-clause-holds c a =
       sound = refl;
       octets = All-nil (λ x. x < 256);
       shows = rw (start_is (rules_by C a c.restart.new.self.slots.slots.most))
-          (c.restart.ensures.shows C a c.restart.new.self.slots.slots.most c.joins.ensures);
+          (c.restart.ensures.shows C a c.restart.new.self.slots.slots.most c.joins_1_1.ensures);
     }

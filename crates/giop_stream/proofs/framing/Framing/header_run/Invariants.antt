@@ -1,5 +1,5 @@
 use Rattle.std.proofs.Common.{◌-◌, ◌≡◌, ◌+◌, ◌++◌, ◌≤◌, ◌<◌, ℕ, take, None}
-use Rattle.giop_stream.specs.HeaderOctets.{wrong}
+use Rattle.giop_stream.specs.HeaderOctets.{last_octet_fault}
 use Rattle.giop_stream.proofs.framing.Framing.header_run.Given as goal
 
 abbrev pub invariant-loop-header_run : goal.invariant-loop-header_run
@@ -7,7 +7,8 @@ invariant-loop-header_run l =
     record {
       within : l.header_run ≤ l.room;
       front : l.front.items ≡ l.self.header.items ++ take l.header_run l.octets;
-      right : (k : ℕ) → k < l.header_run → wrong (l.self.header.items ++ take (k + 1) l.octets)
+      right : (k : ℕ) → k < l.header_run → last_octet_fault (l.self.header.items ++ take
+          (k + 1) l.octets)
           ≡ None;
     }
 

@@ -4,7 +4,7 @@ use Rattle.giop_message.specs.Headers.{size}
 use Rattle.giop_message.specs.DueOctets.{StaysUndue}
 use Rattle.giop_message.specs.HeaderEnds.{HeaderEnd, AgreesAtEnds, after_ends}
 use Rattle.giop_stream.specs.declared.current.Current.{Current}
-use Rattle.giop_stream.specs.Further.{further}
+use Rattle.giop_stream.specs.Further.{current_after}
 use Rattle.giop_stream.specs.Rules.{rules_by}
 use Rattle.giop_stream.specs.OpenSlots.{tracked_after}
 use Rattle.giop_stream.specs.FramingView.{framing_view}
@@ -56,7 +56,7 @@ returns-in_err-count-clause-does g c a s r h agrees =
       all = taken_does C a most s r m h asks.running here.0 here.1 octets asks.apart asks.few
           asks.limit t.n some t.within c.current-before.result at _ _ _ _
           (writes_failed c.from_residual.result (g.O.Out.log c.args.out.now)
-          (g.O.Out.log c.octets.new.out) _ failed (t.all p.0 p.1.0 p.1.1 before).text)
+          (g.O.Out.log c.take_payload.new.out) _ failed (t.all p.0 p.1.0 p.1.1 before).text)
           (on_err _ c.from_residual.result failed);
     }
 
@@ -89,9 +89,9 @@ returns-clause-does g c a s r h agrees =
     asks.limit t.n some t.within c.current-before.result at in
     let does = t.all p.0 p.1.0 p.1.1 before in
     let faults = ap (λ (n : ℕ). m.totals.faults + n) (c.from.ensures ∙ sym does.faults) in
-    let place = ap (λ (d : Current). d.place) c.further-now.ensures in
-    let count = ap (λ (d : Current). d.payload_count) c.further-now.ensures in
-    let head = ap (λ (d : Current). d.header) c.further-now.ensures in
+    let place = ap (λ (d : Current). d.place) c.after_octets-now.ensures in
+    let count = ap (λ (d : Current). d.payload_count) c.after_octets-now.ensures in
+    let head = ap (λ (d : Current). d.header) c.after_octets-now.ensures in
     let long : c.in_ok-count.count ≡ suc (length p.0) = omega (
       arith,
       t.counted,
@@ -100,7 +100,7 @@ returns-clause-does g c a s r h agrees =
       length-take-le t.n octets t.within,
     ) in
     let same_place = ap (λ (n : ℕ). c.current-before.result.place + n) long in
-    let same_count = ap (λ (n : ℕ). (further c.current-before.result n).payload_count) long in
+    let same_count = ap (λ (n : ℕ). (current_after c.current-before.result n).payload_count) long in
     record {
       n = t.n;
       counted = t.counted;
@@ -114,7 +114,8 @@ returns-clause-does g c a s r h agrees =
           asks.limit t.n some t.within c.current-before.result at _ _ _ _ does.text
           (taken_shows C a most s r m h asks.running here.0 here.1 octets asks.apart asks.few
           asks.limit t.n some t.within c.current-before.result at
-          _ (framing_view c.end_message.new.self) c.size_of.result c.end_message.ensures.state refl
+          _ (framing_view c.clear_if_complete.new.self) c.size_of.result
+          c.clear_if_complete.ensures.state refl
           faults (place ∙ same_place) refl refl (count ∙ same_count)
           (c.size_of.ensures ∙ ap size (head ∙ known.header)) does.kept);
     }
@@ -122,9 +123,9 @@ returns-clause-does g c a s r h agrees =
 pub returns-clause-ready : goal.returns-clause-ready
 returns-clause-ready g c =
     ready_settled c.args.catalogue.now _
-    (framing_view c.end_message.new.self) c.size_of.result c.further-now.result.place
-    c.end_message.ensures.state refl
-    (rw c.further-now.ensures c.in_ok-count.ensures.ready)
+    (framing_view c.clear_if_complete.new.self) c.size_of.result c.after_octets-now.result.place
+    c.clear_if_complete.ensures.state refl
+    (rw c.after_octets-now.ensures c.in_ok-count.ensures.ready)
 
 pub returns-clause-told : goal.returns-clause-told
 unfolding tracked_after

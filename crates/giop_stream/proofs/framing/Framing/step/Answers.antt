@@ -8,14 +8,14 @@ use Rattle.giop_stream.specs.FramingView.{framing_view}
 use Rattle.giop_stream.proofs.SlotSteps.AtHeader.{ready_later}
 use Rattle.giop_stream.proofs.SlotSteps.Performing.{nothing_text}
 use Rattle.giop_stream.proofs.CodeSteps.MessageEnds.{on_err}
-use Rattle.giop_stream.proofs.CodeSteps.OutsideMessages.{none_by, ready_stopped, behind_step, limit_step, ended_text, ended_shows}
+use Rattle.giop_stream.proofs.CodeSteps.OutsideMessages.{none_by, ready_stopped, stopped_step, limit_step, ended_text, ended_shows}
 use Rattle.giop_stream.proofs.CodeSteps.HeaderEndSteps.{told_stopped, told_limit, told_heads, at_payload, any_ok}
 use Rattle.giop_stream.proofs.StreamLines.MoreOctets.{one_run}
 use Rattle.giop_stream.proofs.framing.Framing.step.Goals as goal
 
 pub returns-then-is_some-clause-does : goal.returns-then-is_some-clause-does
 returns-then-is_some-clause-does g c a s r h agrees =
-    rw (behind_step c.args.catalogue.now a c.args.self.now.slots.slots.most
+    rw (stopped_step c.args.catalogue.now a c.args.self.now.slots.slots.most
     (framing_view c.args.self.now) s h c.args.octet
     (sym c.is_some.ensures ∙ c.if-is_some.true)) (record { text = nothing_text _; shows = h })
 
@@ -28,18 +28,19 @@ returns-then-self-ge-LIMIT-clause-does g c a s r h agrees =
     rw (limit_step C kept c.args.self.now.slots.slots.most m s h c.args.octet free
     (omega (arith, c.if-self-ge-LIMIT.true))) (record {
       text = rw (← ended_text C kept c.args.self.now.slots.slots.most m s h StreamLimit)
-          c.stop.ensures.text;
-      shows = on_ok_weaker c.stop.result (λ e.
+          c.stop_at_fault.ensures.text;
+      shows = on_ok_weaker c.stop_at_fault.result (λ e.
           rw e (ended_shows C kept c.args.self.now.slots.slots.most m s h StreamLimit _ refl refl
-          refl)) c.stop.ensures.state;
+          refl)) c.stop_at_fault.ensures.state;
     })
 
 pub returns-then-self-ge-LIMIT-clause-ready : goal.returns-then-self-ge-LIMIT-clause-ready
 returns-then-self-ge-LIMIT-clause-ready g c =
-    on_ok_weaker c.stop.result
-    (λ e. ready_stopped c.args.catalogue.now _ (framing_view c.stop.new.self) StreamLimit _ e
+    on_ok_weaker c.stop_at_fault.result
+    (λ e. ready_stopped c.args.catalogue.now _ (framing_view c.stop_at_fault.new.self) StreamLimit _
+    e
     (ready_later c.args.catalogue.now _ _ _ (omega arith) c.requires.ready))
-    c.stop.ensures.state
+    c.stop_at_fault.ensures.state
 
 pub returns-then-is_some-clause-told : goal.returns-then-is_some-clause-told
 returns-then-is_some-clause-told g c a s r h agrees =
@@ -49,7 +50,7 @@ returns-then-is_some-clause-told g c a s r h agrees =
 
 pub returns-then-self-ge-LIMIT-clause-told : goal.returns-then-self-ge-LIMIT-clause-told
 returns-then-self-ge-LIMIT-clause-told g c =
-    any_ok c.stop.result (λ _ a s r h agrees.
+    any_ok c.stop_at_fault.result (λ _ a s r h agrees.
     told_limit g.Q.Correspondent.notified c.args.catalogue.now a c.args.self.now.slots.slots.most s
     r (framing_view c.args.self.now) h _ c.args.octet
     (none_by c.args.self.now.stopped (sym c.is_some.ensures ∙ c.if-is_some.false))

@@ -46,13 +46,14 @@ returns-clause-does g c =
     asks.is _ _ _ _ does.text
     (continuation_shows C a most s r m h c.args.octets.now c.args.found asks.running asks.limit
     asks.is _
-    (framing_view c.end_message.new.self) c.size_of.result c.end_message.ensures.state refl faults
+    (framing_view c.clear_if_complete.new.self) c.size_of.result c.clear_if_complete.ensures.state
+    refl faults
     refl refl pushed refl
     (c.size_of.ensures ∙ ap size (known.header ∙ pushed)) does.kept)
 
 pub returns-clause-ready : goal.returns-clause-ready
 returns-clause-ready g c =
     ready_settled c.args.catalogue.now _
-    (framing_view c.end_message.new.self) c.size_of.result c.current-now.result.place
-    c.end_message.ensures.state c.current-now.ensures.place
+    (framing_view c.clear_if_complete.new.self) c.size_of.result c.current-now.result.place
+    c.clear_if_complete.ensures.state c.current-now.ensures.place
     c.in_ok-faults.ensures.ready

@@ -4,7 +4,7 @@ use Rattle.giop_stream.specs.FramingView.{framing_view}
 use Rattle.giop_stream.specs.EngineStep.{run_state}
 use Rattle.giop_stream.specs.ViewOfState.{Shows}
 use Rattle.giop_stream.proofs.SlotSteps.AtHeader.{ready_later}
-use Rattle.giop_stream.proofs.CodeSteps.HeaderRuns.{Fit, heads_show, heads_quiet}
+use Rattle.giop_stream.proofs.CodeSteps.HeaderRuns.{FitsInHeader, heads_show, heads_quiet}
 use Rattle.giop_stream.proofs.framing.Framing.take_header_octets.Goals as goal
 
 pub returns-clause-shows : goal.returns-clause-shows
@@ -16,7 +16,7 @@ returns-clause-shows c =
     let asks = c.requires in
     let header : c.try_extend_from_slice.new.self.items ≡ m.header ++ q =
     grind (arith, c.try_extend_from_slice.ensures.ok, c.unwrap.ensures) in
-    let fit : Fit (framing_view c.args.self.now) c.args.octets.now =
+    let fit : FitsInHeader (framing_view c.args.self.now) c.args.octets.now =
     record {
       free = asks.running;
       few = asks.before_last;
@@ -35,7 +35,7 @@ pub returns-clause-lines : goal.returns-clause-lines
 returns-clause-lines c =
     λ C l s h.
     let asks = c.requires in
-    let fit : Fit (framing_view c.args.self.now) c.args.octets.now =
+    let fit : FitsInHeader (framing_view c.args.self.now) c.args.octets.now =
     record {
       free = asks.running;
       few = asks.before_last;

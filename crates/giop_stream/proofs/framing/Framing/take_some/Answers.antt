@@ -14,7 +14,7 @@ use Rattle.giop_stream.proofs.CodeSteps.MessageEnds.{on_err}
 use Rattle.giop_stream.proofs.CodeSteps.MessageOctets.{messages_at, reached_on}
 use Rattle.giop_stream.proofs.CodeSteps.OwnerRuns.{if_err}
 use Rattle.giop_stream.proofs.CodeSteps.FragmentSteps.{continuation_untold}
-use Rattle.giop_stream.proofs.CodeSteps.HeaderEndSteps.{AreUntold, if_ok_weaker, if_ok_both, untold_ends, told_ahead, from_one}
+use Rattle.giop_stream.proofs.CodeSteps.HeaderEndSteps.{AreWithoutEvents, if_ok_weaker, if_ok_both, untold_ends, told_ahead, from_one}
 use Rattle.giop_stream.proofs.CodeSteps.TakenOctets.{first_alone, none_before, one_takes, front_agrees, front_untold, run_front, run_takes}
 use Rattle.giop_stream.proofs.StreamLines.MoreOctets.{one_run}
 use Rattle.giop_stream.proofs.framing.Framing.take_some.Goals as goal
@@ -149,7 +149,8 @@ returns-in_err-take_continuation-clause-does g c a s r h agrees =
       some = λ _. omega arith;
       fronts = λ k few. (
         λ calm.
-            let front = subst (AreUntold C) (ap (header_ends_from (rules_by C a most) r.stream)
+            let front = subst (AreWithoutEvents C) (ap (header_ends_from
+            (rules_by C a most) r.stream)
             (take-take k 5 octets (omega (arith, few))))
             (front_untold C (rules_by C a most) r.stream (take 5 octets) k untold) in
             rw (untold_ends g.Q.Correspondent.notified C st _ front) calm,
@@ -185,7 +186,8 @@ returns-in-Some-clause-does g c a s r h agrees =
       some = λ _. omega arith;
       fronts = λ k few. (
         λ calm.
-            let front = subst (AreUntold C) (ap (header_ends_from (rules_by C a most) r.stream)
+            let front = subst (AreWithoutEvents C) (ap (header_ends_from
+            (rules_by C a most) r.stream)
             (take-take k 5 octets (omega (arith, few))))
             (front_untold C (rules_by C a most) r.stream (take 5 octets) k untold) in
             rw (untold_ends g.Q.Correspondent.notified C st _ front) calm,

@@ -8,22 +8,22 @@ use Rattle.giop_stream.proofs.slots.Slots.cancel.Goals as goal
 pub returns-then-is_none-clause-does : goal.returns-then-is_none-clause-does
 returns-then-is_none-clause-does g c =
     λ C l c' w o h free here rising.
-    let was = open_slot C l c.args.self.now c.in-Some.entry c' (Some w) c.args.k o h here
+    let was = open_slot C l c.args.self.now c.in-Some.entry c' (Some w) c.args.index o h here
     (sym c.in-Some.ensures.value) in
     let over = no_lines C l o.opener _ _ (rw (no_message c.in-Some.entry.value.message
     c.if-is_none.ensures) at was.message) in
-    let keeps = cancel_keeps C l c.args.self.now c.take.new.self c' w c.args.k o c.args.place
+    let keeps = cancel_keeps C l c.args.self.now c.take.new.self c' w c.args.index o c.args.place
     c.args.by h free here rising c.in-Some.ensures.entries in
     performs_on _ _ _ over (λ k. k) (does_nothing _ _ refl keeps)
 
 pub returns-else-is_none-clause-does : goal.returns-else-is_none-clause-does
 returns-else-is_none-clause-does g c =
     λ C l c' w o h free here rising.
-    let was = open_slot C l c.args.self.now c.in-Some.entry c' (Some w) c.args.k o h here
+    let was = open_slot C l c.args.self.now c.in-Some.entry c' (Some w) c.args.index o h here
     (sym c.in-Some.ensures.value) in
     let says = cancel_says C l c.in-Some.entry.value.message o.opener _ c.args.place c.args.by
     c.if-is_none.ensures was.message in
-    let keeps = cancel_keeps C l c.args.self.now c.take.new.self c' w c.args.k o c.args.place
+    let keeps = cancel_keeps C l c.args.self.now c.take.new.self c' w c.args.index o c.args.place
     c.args.by h free here rising c.in-Some.ensures.entries in
     performs_on _ _ _ says (λ k. k)
     (writes_line c.cancelled_line.result _ _ _
@@ -32,5 +32,5 @@ returns-else-is_none-clause-does g c =
 
 pub returns-in-None-clause-does : goal.returns-in-None-clause-does
 returns-in-None-clause-does g c =
-    λ C l c' w o h free here rising. open_there C l c.args.self.now c' (Some w) c.args.k o
+    λ C l c' w o h free here rising. open_there C l c.args.self.now c' (Some w) c.args.index o
     (λ l. false≢true (c.in-None.ensures.variant.1 l)) h here

@@ -4,7 +4,7 @@ use Rattle.giop_stream.specs.SlotsRepresent.{index_of}
 use Rattle.giop_stream.proofs.SlotSteps.Performing.{does_nothing}
 use Rattle.giop_stream.proofs.SlotSteps.ReadingEffects.{over_part}
 use Rattle.giop_stream.proofs.SlotSteps.EventsOnSlots.{still_faulted, still_alters, own_effects, slot_effects, no_slot_says}
-use Rattle.giop_stream.proofs.SlotSteps.SlotLists.{none_behind, value_ready}
+use Rattle.giop_stream.proofs.SlotSteps.SlotLists.{none_beyond, value_ready}
 use Rattle.giop_stream.proofs.slots.Slots.fault_message.Goals as goal
 
 pub returns-else-is_over-clause-does : goal.returns-else-is_over-clause-does
@@ -39,7 +39,7 @@ returns-in-None-clause-does g c =
     λ C l c' w h n rising calm.
     let index = ap index_of c.in-Open-Some.is ∙ c.in-Open-Some.field-0-is in
     no_slot_says C l c.args.self.now c' (Some w) c.in-Open-Some.k index
-    (none_behind _ _ c.in-None.ensures.value) h
+    (none_beyond _ _ c.in-None.ensures.value) h
 
 pub returns-else-is_over-clause-room : goal.returns-else-is_over-clause-room
 returns-else-is_over-clause-room g c = record {

@@ -2,9 +2,9 @@ use Rattle.std.proofs.Common.{◌≡◌, ℕ, Bool, length, None, refl, take, ap
 use Rattle.giop_message.specs.DueOctets.{StaysUndue}
 use Rattle.giop_message.specs.HeaderEnds.{AgreesAtEnds, after_ends}
 use Rattle.giop_stream.specs.declared.slots.PayloadOwner.TheVariants as owners
-use Rattle.giop_stream.specs.DoesEffect.{one_if}
+use Rattle.giop_stream.specs.DoesEffect.{count_one_if}
 use Rattle.giop_stream.specs.SlotsRepresent.{index_of}
-use Rattle.giop_stream.proofs.SlotSteps.SlotLists.{none_behind, all_later, value_ready}
+use Rattle.giop_stream.proofs.SlotSteps.SlotLists.{none_beyond, all_later, value_ready}
 use Rattle.giop_stream.proofs.SlotSteps.EventsOnSlots.{no_slot_says}
 use Rattle.giop_stream.proofs.CodeSteps.Runs.{own_takes, slot_takes}
 use Rattle.giop_stream.proofs.CodeSteps.OwnerRuns.{over_takes}
@@ -14,7 +14,7 @@ use Rattle.giop_stream.proofs.slots.Slots.take.Goals as goal
 pub returns-else-is_over-clause-does : goal.returns-else-is_over-clause-does
 returns-else-is_over-clause-does g c =
     λ a c' owner_of_next h rising.
-    own_takes c.args.catalogue.now a (λ (r : ℕ × Bool). r.0) (λ (r : ℕ × Bool). one_if r.1)
+    own_takes c.args.catalogue.now a (λ (r : ℕ × Bool). r.0) (λ (r : ℕ × Bool). count_one_if r.1)
     c.take_octets.result _ _
     c.args.self.now c' owner_of_next c.args.before c.args.octets.now h
     (λ ends. AgreesAtEnds g.Q.Correspondent.answer g.Q.Correspondent.notified c.args.catalogue.now
@@ -29,7 +29,8 @@ returns-else-is_over-clause-does g c =
 pub returns-in-Open-None-clause-does : goal.returns-in-Open-None-clause-does
 returns-in-Open-None-clause-does g c =
     λ a c' owner_of_next h rising.
-    own_takes c.args.catalogue.now a (λ (r : ℕ × Bool). r.0) (λ (r : ℕ × Bool). one_if r.1) _ _ _
+    own_takes c.args.catalogue.now a (λ (r : ℕ × Bool). r.0) (λ (r : ℕ ×
+    Bool). count_one_if r.1) _ _ _
     c.args.self.now c' owner_of_next c.args.before c.args.octets.now h
     (λ ends. AgreesAtEnds g.Q.Correspondent.answer g.Q.Correspondent.notified c.args.catalogue.now
     (g.Q.Correspondent.state c.args.correspondent.now) a (ends c.args.octets.now))
@@ -45,7 +46,7 @@ pub returns-in-Some-clause-does : goal.returns-in-Some-clause-does
 returns-in-Some-clause-does g c =
     λ a c' owner_of_next h rising.
     let index = ap index_of c.in-Open-Some.is ∙ c.in-Open-Some.field-0-is in
-    slot_takes c.args.catalogue.now a (λ (r : ℕ × Bool). r.0) (λ (r : ℕ × Bool). one_if r.1)
+    slot_takes c.args.catalogue.now a (λ (r : ℕ × Bool). r.0) (λ (r : ℕ × Bool). count_one_if r.1)
     c.take_octets-in-Some.result _ _
     c.args.self.now c' owner_of_next c.args.before c.args.octets.now h
     (λ ends. AgreesAtEnds g.Q.Correspondent.answer g.Q.Correspondent.notified c.args.catalogue.now
@@ -61,7 +62,7 @@ returns-in-None-clause-does g c =
     λ a c' owner_of_next h rising agrees.
     let index = ap index_of c.in-Open-Some.is ∙ c.in-Open-Some.field-0-is in
     no_slot_says c.args.catalogue.now a c.args.self.now c' owner_of_next c.in-Open-Some.k index
-    (none_behind _ _ c.in-None.ensures.value) h
+    (none_beyond _ _ c.in-None.ensures.value) h
 
 pub returns-in-Some-clause-ready : goal.returns-in-Some-clause-ready
 returns-in-Some-clause-ready g c =
@@ -117,7 +118,7 @@ returns-in-None-clause-told g c =
     λ a c' owner_of_next h agrees.
     let index = ap index_of c.in-Open-Some.is ∙ c.in-Open-Some.field-0-is in
     no_slot_says c.args.catalogue.now a c.args.self.now c' owner_of_next c.in-Open-Some.k index
-    (none_behind _ _ c.in-None.ensures.value) h
+    (none_beyond _ _ c.in-None.ensures.value) h
 
 pub returns-in-Open-None-clause-told : goal.returns-in-Open-None-clause-told
 returns-in-Open-None-clause-told g c =
@@ -134,7 +135,8 @@ returns-in-Open-None-clause-told g c =
 pub returns-then-is_over-clause-does : goal.returns-then-is_over-clause-does
 returns-then-is_over-clause-does g c =
     λ a c' owner_of_next h rising.
-    own_takes c.args.catalogue.now a (λ (r : ℕ × Bool). r.0) (λ (r : ℕ × Bool). one_if r.1) _ _ _
+    own_takes c.args.catalogue.now a (λ (r : ℕ × Bool). r.0) (λ (r : ℕ ×
+    Bool). count_one_if r.1) _ _ _
     c.args.self.now c' owner_of_next c.args.before c.args.octets.now h
     (λ ends. AgreesAtEnds g.Q.Correspondent.answer g.Q.Correspondent.notified c.args.catalogue.now
     (g.Q.Correspondent.state c.args.correspondent.now) a (ends c.args.octets.now))

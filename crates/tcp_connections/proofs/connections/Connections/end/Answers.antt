@@ -8,7 +8,7 @@ use Rattle.tcp_connections.proofs.connections.Connections.end.Goals as goal
 pub returns-clause-does : goal.returns-clause-does
 unfolding ended
 returns-clause-does g c w h = c.close_all.ensures.does _
-    (before_end _ _ _ _ (c.in_ok-end_gaps.ensures.does w
+    (before_end _ _ _ _ (c.in_ok-make_end_gaps.ensures.does w
     (rw (c.pack.ensures.listener, c.pack.ensures.live) h)))
 
 pub returns-clause-none : goal.returns-clause-none
@@ -16,7 +16,7 @@ returns-clause-none g c =
     let F = g.L.Listener.reader in
     let w = c.requires.state.0 in
     let count = length w.held + length (lives w.events) in
-    let h = c.in_ok-end_gaps.ensures.does w
+    let h = c.in_ok-make_end_gaps.ensures.does w
     (rw (c.pack.ensures.listener, c.pack.ensures.live) c.requires.state.1) in
     none_at_end _ (g.L.Listener.observed c.close_all.new.to.listener)
     c.close_all.new.to.live.items c.close_all.new.self (gaps_from F count 0 w) h.told

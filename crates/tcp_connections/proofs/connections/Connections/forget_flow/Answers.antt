@@ -30,8 +30,8 @@ returns-clause-does g c w h =
     (record { observed = (h0.observed, h0.live); same = refl }))
     (closed_turn c.args.id es (state c.in-Some.flow S.held es) c.args.cause
     (turn_start _ _ _ es c.args.id c.in-Some.flow h0 e))
-    (set_rest c.args.self.now c.set.new.self c.forget.new.pool c.note.new.self
+    (set_rest c.args.self.now c.set.new.self c.remove_held.new.pool c.note.new.self
     c.set.ensures.came c.set.ensures.stamps)
-    c.set.ensures.states c.forget.ensures.blocks
-    (c.forget.ensures.held ∙ ap (λ n. held_by_others n S.held) own) refl refl
+    c.set.ensures.states c.remove_held.ensures.blocks
+    (c.remove_held.ensures.held ∙ ap (λ n. held_by_others n S.held) own) refl refl
     c.note.ensures.noted))) w h

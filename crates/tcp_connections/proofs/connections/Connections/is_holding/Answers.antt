@@ -4,7 +4,7 @@ use Rattle.tcp_connections.proofs.connections.Connections.is_holding.Goals as go
 
 pub returns-in-Some : goal.returns-in-Some
 unfolding is_holding
-returns-in-Some c = c.holds.ensures ∙ sym (ap (is_holding c.args.self.now.pool.held)
+returns-in-Some c = c.holds_payload.ensures ∙ sym (ap (is_holding c.args.self.now.pool.held)
     (sym c.flow.ensures ∙ c.in-Some.is))
 
 pub returns-in-None : goal.returns-in-None

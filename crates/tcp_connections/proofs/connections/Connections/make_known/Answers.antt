@@ -6,7 +6,7 @@ use Rattle.tcp_streams.specs.Lives.{lives}
 use Rattle.tcp_streams.specs.Pairs.{flow_id, flow_from}
 use Rattle.tcp_connections.specs.Connections.{State, next_slot}
 use Rattle.tcp_connections.specs.State.{state_of}
-use Rattle.tcp_connections.proofs.Changes.{made, entered, others_of, told_as, taken_below, taken_free}
+use Rattle.tcp_connections.proofs.Changes.{made, entered, state_without_lists, told_as, taken_below, taken_free}
 use Rattle.tcp_connections.proofs.States.{sound_of}
 use Rattle.tcp_connections.proofs.Times.{next_is}
 use Rattle.tcp_connections.proofs.connections.Connections.make_known.Goals as goal
@@ -51,20 +51,20 @@ pub returns-clause-does : goal.returns-clause-does
 returns-clause-does g c w h =
     let pair = c.args.pair in
     let slot = c.in-Some.slot in
-    let told = told_as (λ es. g.L.Listener.observed c.on_open-2.new.self.listener es
-    × (c.on_open-2.new.self.live.items ≡ lives es)) w.events
+    let told = told_as (λ es. g.L.Listener.observed c.on_new_flow-2.new.self.listener es
+    × (c.on_new_flow-2.new.self.live.items ≡ lives es)) w.events
     c.flow_id-lesser.result c.flow_id-greater.result (flow_id slot FromLesser)
     (flow_id slot FromGreater)
     c.flow_from.result c.flow_from-2.result (flow_from pair FromLesser) (flow_from pair FromGreater)
     c.flow_id-lesser.ensures.id c.flow_from.ensures c.flow_id-greater.ensures.id
     c.flow_from-2.ensures
-    (c.in_ok-on_open-2.ensures.does _ (c.in_ok-on_open.ensures.does w.events (
+    (c.in_ok-on_new_flow-2.ensures.does _ (c.in_ok-on_new_flow.ensures.does w.events (
       h.observed,
       h.live,
     ))) in
     made (g.L.Listener.observed c.args.to.now.listener)
-    (g.L.Listener.observed c.on_open-2.new.self.listener) c.args.to.now.live.items
-    c.on_open-2.new.self.live.items c.args.self.now
+    (g.L.Listener.observed c.on_new_flow-2.new.self.listener) c.args.to.now.live.items
+    c.on_new_flow-2.new.self.live.items c.args.self.now
     (record c.args.self.now {
       table = c.add.new.self;
       guesses = c.note.new.self;
@@ -80,7 +80,8 @@ returns-clause-does g c w h =
       flows = c.open.new.self;
       syns = c.set.new.self;
     }) es (λ es. ap (λ (fs : List (Option FlowState)).
-    record (others_of c.args.self.now es) { flows = fs }) c.open.ensures.states) _ _ _ _ _ _
+    record (state_without_lists c.args.self.now es) { flows = fs }) c.open.ensures.states) _ _ _ _ _
+    _
     (c.add.ensures.keys ∙ ap (λ n. insert c.args.self.now.table.keys n pair)
     c.index_for-index.ensures.index)
     (c.add.ensures.slots ∙ ap (λ n. insert c.args.self.now.table.slots n slot)

@@ -16,8 +16,8 @@ returns-then-not-is_full-clause-does g c w h =
       ap length (known_of _ _ _ _ h),
     ))) h
 
-pub clear-requires-clause-state : goal.clear-requires-clause-state
-clear-requires-clause-state g c =
+pub clear_connection-requires-clause-state : goal.clear_connection-requires-clause-state
+clear_connection-requires-clause-state g c =
     let h = c.requires.state in (
       h.0,
       kept _ _ c.args.self.now c.find_eldest-index.new.self h.0 c.find_eldest-index.ensures.same
@@ -35,10 +35,10 @@ returns-clause-does g c w h =
     (ap length known)
     ∙ eldest_any c.args.self.now [] w.events (length w.known)
     ∙ ap (λ (u : State). eldest u (length w.known)) h.same in
-    moved_ok c.clear.result _ _ _ _ _
+    moved_ok c.clear_connection.result _ _ _ _ _
     (room_made F w (omega (arith, full, h.room, ap length known))
     ∙ ap (cleared F w) (sym n))
-    (c.clear.ensures.does w (kept _ _ c.args.self.now c.find_eldest-index.new.self w
+    (c.clear_connection.ensures.does w (kept _ _ c.args.self.now c.find_eldest-index.new.self w
     c.find_eldest-index.ensures.same c.find_eldest-index.ensures.free
     c.find_eldest-index.ensures.room
     c.find_eldest-index.ensures.givers h))

@@ -46,23 +46,23 @@ loop-left-preserved g c w h =
       ap (λ (u : State). u.blocks) i.1.0.same,
     ) in
     let ids : List ℕ = c.loop-left.to.live.items in
-    let id : c.giver-id.result ≡ heaviest v =
-    c.giver-id.ensures.is
+    let id : c.find_heaviest-id.result ≡ heaviest v =
+    c.find_heaviest-id.ensures.is
     ∙ ap (λ (u : State). heaviest_from u.held (get_or ids 0 0) ids) i.1.0.same
     ∙ ap (λ (xs : List ℕ). heaviest_from v.held (get_or xs 0 0) xs) i.1.0.live in
-    let holds : is_holding v.held (flow_at v c.giver-id.result) ≡ true =
+    let holds : is_holding v.held (flow_at v c.find_heaviest-id.result) ≡ true =
     subst (λ (n : ℕ). is_holding v.held (flow_at v n) ≡ true) (sym id)
     (heaviest_holds v i.1.0.sound i.1.0.told short) in
-    let packed : IsStateOver 256 (g.L.Listener.observed c.giver-id.new.to.listener)
-    c.giver-id.new.to.live.items c.loop-left.self v =
-    rw (c.giver-id.ensures.listener, c.giver-id.ensures.live) i.1.0 in (
-      gapped F v c.giver-id.result,
+    let packed : IsStateOver 256 (g.L.Listener.observed c.find_heaviest-id.new.to.listener)
+    c.find_heaviest-id.new.to.live.items c.loop-left.self v =
+    rw (c.find_heaviest-id.ensures.listener, c.find_heaviest-id.ensures.live) i.1.0 in (
+      gapped F v c.find_heaviest-id.result,
       (
-        c.in_ok-gap.ensures.does 256 v packed,
+        c.in_ok-make_gap.ensures.does 256 v packed,
         (
           ap (λ (n : ℕ). relieved F (c.loop-left.left - 1) (gapped F v n)) id
               ∙ sym (relieved_gap F c.loop-left.left v c.loop-left-test.true short) ∙ i.1.1.0,
-          omega (arith, i.1.1.1, gapped_fewer F v c.giver-id.result holds),
+          omega (arith, i.1.1.1, gapped_fewer F v c.find_heaviest-id.result holds),
         ),
       ),
     )

@@ -2,7 +2,7 @@ use Rattle.std.proofs.Common.{◌≡◌, ◌+◌, ◌/◌, ℕ, [], true, false,
 use Rattle.tcp_segment.specs.Segments.{segment_view}
 use Rattle.tcp_flow.specs.declared.flow.CloseCause.TheVariants.{Syn}
 use Rattle.tcp_streams.specs.Pairs.{pair_of, flow_id}
-use Rattle.tcp_connections.specs.Connections.{State, index_of, flow_at, flow_of_side, syn_at, slot_at, is_kept, is_anew, ended_by, unknown_taken, syn_kept, step}
+use Rattle.tcp_connections.specs.Connections.{State, index_of, flow_at, flow_of_side, syn_at, slot_at, is_syn_to_keep, begins_anew, ended_by, unknown_taken, syn_kept, step}
 use Rattle.tcp_connections.specs.State.{state_of}
 use Rattle.tcp_connections.proofs.Cases.{step_unknown, step_kept, step_anew, step_known}
 use Rattle.tcp_connections.proofs.Changes.{counted, syn_noted}
@@ -66,8 +66,8 @@ keep_syn-requires g c =
           ∙ half c.in-Some.slot c.pair_of-side.result.1;
     }
 
-pub returns-then-is_kept-clause-does : goal.returns-then-is_kept-clause-does
-returns-then-is_kept-clause-does g c w h =
+pub returns-then-is_syn_to_keep-clause-does : goal.returns-then-is_syn_to_keep-clause-does
+returns-then-is_syn_to_keep-clause-does g c w h =
     let F = g.L.Listener.reader in
     let V = segment_view c.args.segment in
     let pair = c.pair_of-side.result.0 in
@@ -82,8 +82,9 @@ returns-then-is_kept-clause-does g c w h =
     c.flow_id-id.ensures.id ∙ ap (λ (r : ℕ). flow_id r c.pair_of-side.result.1) at
     ∙ ap (λ q. flow_id (slot_at w index) q.1) c.pair_of-side.ensures in
     let flow = ap (λ (u : State). flow_at u c.flow_id-id.result) h.same ∙ ap (flow_at w) id in
-    let kept : is_kept (flow_of_side w index (pair_of V.flow).1) V ≡ true =
-    ap (λ o. is_kept o V) (sym flow) ∙ sym c.is_kept.ensures ∙ c.if-is_kept.true in
+    let kept : is_syn_to_keep (flow_of_side w index (pair_of V.flow).1) V ≡ true =
+    ap (λ o. is_syn_to_keep o V) (sym flow) ∙ sym c.is_syn_to_keep.ensures
+    ∙ c.if-is_syn_to_keep.true in
     let v : State = record w { segments = w.segments + 1 } in
     moved (g.L.Listener.observed c.args.to.now.listener) c.args.to.now.live.items
     c.keep_syn.new.self (step F w V) (syn_kept v c.in-Some.slot c.flow_id-id.result V)
@@ -105,9 +106,9 @@ returns-then-is_kept-clause-does g c w h =
     c.keep_syn.ensures.kept c.keep_syn.ensures.free c.keep_syn.ensures.room
     c.keep_syn.ensures.givers)
 
-pub returns-then-is_kept-clause-count : goal.returns-then-is_kept-clause-count
+pub returns-then-is_syn_to_keep-clause-count : goal.returns-then-is_syn_to_keep-clause-count
 unfolding syn_kept
-returns-then-is_kept-clause-count g c =
+returns-then-is_syn_to_keep-clause-count g c =
     ap (λ (u : State). u.segments) (c.keep_syn.ensures.kept [])
 
 pub index_of-requires : goal.index_of-requires
@@ -124,8 +125,8 @@ index_of-requires g c =
       known = (k.0, k.1.found);
     }
 
-pub end_by-requires-clause-state : goal.end_by-requires-clause-state
-end_by-requires-clause-state g c = (
+pub end_connection-requires-clause-state : goal.end_connection-requires-clause-state
+end_connection-requires-clause-state g c = (
   _,
   (counted (g.L.Listener.observed c.args.to.now.listener)
       c.args.to.now.live.items c.args.self.now
@@ -136,11 +137,11 @@ end_by-requires-clause-state g c = (
       c.requires.state.1 (λ e. refl) refl refl refl),
 )
 
-pub take_unknown-requires-then-is_anew-clause-state :
-    goal.take_unknown-requires-then-is_anew-clause-state
-take_unknown-requires-then-is_anew-clause-state g c = (
+pub take_unknown-requires-then-begins_anew-clause-state :
+    goal.take_unknown-requires-then-begins_anew-clause-state
+take_unknown-requires-then-begins_anew-clause-state g c = (
   _,
-  c.in_ok-end_by.ensures.does _ (counted (g.L.Listener.observed c.args.to.now.listener)
+  c.in_ok-end_connection.ensures.does _ (counted (g.L.Listener.observed c.args.to.now.listener)
       c.args.to.now.live.items c.args.self.now
       (record c.args.self.now {
         segments = c.args.self.now.segments + 1;
@@ -149,14 +150,15 @@ take_unknown-requires-then-is_anew-clause-state g c = (
       c.requires.state.1 (λ e. refl) refl refl refl),
 )
 
-pub take_unknown-requires-then-is_anew-clause-new :
-    goal.take_unknown-requires-then-is_anew-clause-new
-take_unknown-requires-then-is_anew-clause-new g c =
+pub take_unknown-requires-then-begins_anew-clause-new :
+    goal.take_unknown-requires-then-begins_anew-clause-new
+take_unknown-requires-then-begins_anew-clause-new g c =
     let w = c.requires.state.0 in
     let h = c.requires.state.1 in
     let pair = c.pair_of-side.result.0 in
     let v : State = record w { segments = w.segments + 1 } in
-    let n = c.in_ok-end_by.ensures.does _ (counted (g.L.Listener.observed c.args.to.now.listener)
+    let n = c.in_ok-end_connection.ensures.does _
+    (counted (g.L.Listener.observed c.args.to.now.listener)
     c.args.to.now.live.items c.args.self.now
     (record c.args.self.now {
       segments = c.args.self.now.segments + 1;
@@ -170,8 +172,8 @@ take_unknown-requires-then-is_anew-clause-new g c =
     c.pair_of-side.result.1 c.pair_of-side.result.1 Syn)
     ∙ forgotten_unknown pair w.known c.index_of.result h.sound.order some
 
-pub returns-then-is_anew-clause-does : goal.returns-then-is_anew-clause-does
-returns-then-is_anew-clause-does g c w h =
+pub returns-then-begins_anew-clause-does : goal.returns-then-begins_anew-clause-does
+returns-then-begins_anew-clause-does g c w h =
     let F = g.L.Listener.reader in
     let V = segment_view c.args.segment in
     let pair = c.pair_of-side.result.0 in
@@ -190,19 +192,20 @@ returns-then-is_anew-clause-does g c w h =
     ∙ ap (λ q. flow_id (slot_at w index) q.1) c.pair_of-side.ensures in
     let flow = ap (λ (u : State). flow_at u c.flow_id-id.result) h.same ∙ ap (flow_at w) id in
     let syn = ap (λ (u : State). syn_at u c.in-Some.slot) h.same ∙ ap (syn_at w) at in
-    let not_kept : is_kept (flow_of_side w index (pair_of V.flow).1) V ≡ false =
-    ap (λ o. is_kept o V) (sym flow) ∙ sym c.is_kept.ensures ∙ c.if-is_kept.false in
-    let anew : is_anew (syn_at w (slot_at w index)) (flow_id (slot_at w index)
+    let not_kept : is_syn_to_keep (flow_of_side w index (pair_of V.flow).1) V ≡ false =
+    ap (λ o. is_syn_to_keep o V) (sym flow) ∙ sym c.is_syn_to_keep.ensures
+    ∙ c.if-is_syn_to_keep.false in
+    let anew : begins_anew (syn_at w (slot_at w index)) (flow_id (slot_at w index)
     (pair_of V.flow).1) V ≡ true =
-    ap (λ o. is_anew o (flow_id (slot_at w index) (pair_of V.flow).1) V) (sym syn)
-    ∙ ap (λ i. is_anew (syn_at (state_of c.args.self.now w.events) c.in-Some.slot) i V) (sym id)
-    ∙ sym c.is_anew.ensures ∙ c.if-is_anew.true in
-    moved_ok c.take_unknown-then-is_anew.result _ _ _ _ _
+    ap (λ o. begins_anew o (flow_id (slot_at w index) (pair_of V.flow).1) V) (sym syn)
+    ∙ ap (λ i. begins_anew (syn_at (state_of c.args.self.now w.events) c.in-Some.slot) i V) (sym id)
+    ∙ sym c.begins_anew.ensures ∙ c.if-begins_anew.true in
+    moved_ok c.take_unknown-then-begins_anew.result _ _ _ _ _
     (step_anew F w V index some not_kept anew ∙ ap (λ q.
     unknown_taken F (ended_by F (record w { segments = w.segments + 1 }) index q.1 Syn) V)
     (sym c.pair_of-side.ensures))
-    (c.take_unknown-then-is_anew.ensures.does _
-    (c.in_ok-end_by.ensures.does _ (counted (g.L.Listener.observed c.args.to.now.listener)
+    (c.take_unknown-then-begins_anew.ensures.does _
+    (c.in_ok-end_connection.ensures.does _ (counted (g.L.Listener.observed c.args.to.now.listener)
     c.args.to.now.live.items c.args.self.now
     (record c.args.self.now {
       segments = c.args.self.now.segments + 1;
@@ -210,12 +213,12 @@ returns-then-is_anew-clause-does g c w h =
     }) w h (λ e. refl) refl
     refl refl)))
 
-pub returns-then-is_anew-clause-count : goal.returns-then-is_anew-clause-count
-returns-then-is_anew-clause-count g c =
-    segments_of c.take_unknown-then-is_anew.result _ _ _ _ _
+pub returns-then-begins_anew-clause-count : goal.returns-then-begins_anew-clause-count
+returns-then-begins_anew-clause-count g c =
+    segments_of c.take_unknown-then-begins_anew.result _ _ _ _ _
     (step_segments g.L.Listener.reader c.requires.state.0 (segment_view c.args.segment)
     ∙ ap (λ n. n + 1) (sym (ap (λ (u : State). u.segments) c.requires.state.1.same)))
-    (returns-then-is_anew-clause-does g c c.requires.state.0 c.requires.state.1)
+    (returns-then-begins_anew-clause-does g c c.requires.state.0 c.requires.state.1)
 
 pub take_known-requires-clause-state : goal.take_known-requires-clause-state
 take_known-requires-clause-state g c = (
@@ -245,13 +248,14 @@ returns-clause-does g c w h =
     ∙ ap (λ q. flow_id (slot_at w index) q.1) c.pair_of-side.ensures in
     let flow = ap (λ (u : State). flow_at u c.flow_id-id.result) h.same ∙ ap (flow_at w) id in
     let syn = ap (λ (u : State). syn_at u c.in-Some.slot) h.same ∙ ap (syn_at w) at in
-    let not_kept : is_kept (flow_of_side w index (pair_of V.flow).1) V ≡ false =
-    ap (λ o. is_kept o V) (sym flow) ∙ sym c.is_kept.ensures ∙ c.if-is_kept.false in
-    let known : is_anew (syn_at w (slot_at w index)) (flow_id (slot_at w index)
+    let not_kept : is_syn_to_keep (flow_of_side w index (pair_of V.flow).1) V ≡ false =
+    ap (λ o. is_syn_to_keep o V) (sym flow) ∙ sym c.is_syn_to_keep.ensures
+    ∙ c.if-is_syn_to_keep.false in
+    let known : begins_anew (syn_at w (slot_at w index)) (flow_id (slot_at w index)
     (pair_of V.flow).1) V ≡ false =
-    ap (λ o. is_anew o (flow_id (slot_at w index) (pair_of V.flow).1) V) (sym syn)
-    ∙ ap (λ i. is_anew (syn_at (state_of c.args.self.now w.events) c.in-Some.slot) i V) (sym id)
-    ∙ sym c.is_anew.ensures ∙ c.if-is_anew.false in
+    ap (λ o. begins_anew o (flow_id (slot_at w index) (pair_of V.flow).1) V) (sym syn)
+    ∙ ap (λ i. begins_anew (syn_at (state_of c.args.self.now w.events) c.in-Some.slot) i V) (sym id)
+    ∙ sym c.begins_anew.ensures ∙ c.if-begins_anew.false in
     moved_ok c.take_known.result _ _ _ _ _ (step_known F w V index some not_kept known)
     (c.take_known.ensures.does index k.1 _ (counted (g.L.Listener.observed c.args.to.now.listener)
     c.args.to.now.live.items c.args.self.now

@@ -27,8 +27,8 @@ note-requires g c =
       own = ap (λ (n : ℕ). n / 2) c.flow_id-id.ensures.id ∙ half c.args.slot c.args.side;
     }
 
-pub acknowledgement-requires : goal.acknowledgement-requires
-acknowledgement-requires g c =
+pub tell_acknowledgement-requires : goal.tell_acknowledgement-requires
+tell_acknowledgement-requires g c =
     record {
       state = (
         _,
@@ -38,20 +38,20 @@ acknowledgement-requires g c =
       );
     }
 
-pub payload-requires-clause-state : goal.payload-requires-clause-state
-payload-requires-clause-state g c = (
+pub take_payload-requires-clause-state : goal.take_payload-requires-clause-state
+take_payload-requires-clause-state g c = (
   _,
-  c.in_ok-acknowledgement.ensures.does _
+  c.in_ok-tell_acknowledgement.ensures.does _
       (noted _ _ c.args.self.now _ c.requires.state.0 c.args.slot
       c.flow_id-id.result c.requires.state.1 c.note.ensures.noted
       c.note.ensures.free c.note.ensures.room c.note.ensures.givers),
 )
 
-pub payload-requires-clause-within : goal.payload-requires-clause-within
-payload-requires-clause-within g c =
+pub take_payload-requires-clause-within : goal.take_payload-requires-clause-within
+take_payload-requires-clause-within g c =
     let w = c.requires.state.0 in
     let h = c.requires.state.1 in
-    let n = c.in_ok-acknowledgement.ensures.does _
+    let n = c.in_ok-tell_acknowledgement.ensures.does _
     (noted _ _ c.args.self.now _ w c.args.slot c.flow_id-id.result h
     c.note.ensures.noted c.note.ensures.free c.note.ensures.room c.note.ensures.givers) in
     let k = acknowledgement_kept g.L.Listener.reader
@@ -69,21 +69,21 @@ payload-requires-clause-within g c =
       k.flows,
       ap (λ (u : State). length u.flows) h.same,
       sound.flows,
-      c.acknowledgement.new.self.flows.states.ok.0,
+      c.tell_acknowledgement.new.self.flows.states.ok.0,
     )
 
-pub payload-requires-clause-taken : goal.payload-requires-clause-taken
-payload-requires-clause-taken g c =
+pub take_payload-requires-clause-taken : goal.take_payload-requires-clause-taken
+take_payload-requires-clause-taken g c =
     let w = c.requires.state.0 in
     let h = c.requires.state.1 in
-    let n = c.in_ok-acknowledgement.ensures.does _
+    let n = c.in_ok-tell_acknowledgement.ensures.does _
     (noted _ _ c.args.self.now _ w c.args.slot c.flow_id-id.result h
     c.note.ensures.noted c.note.ensures.free c.note.ensures.room c.note.ensures.givers) in
     let k = acknowledgement_kept g.L.Listener.reader
     (with_segment w c.args.slot c.flow_id-id.result) c.flow_id.result
     (segment_view c.args.segment) in
     let sound = sound_of _ _ _ _ h in
-    let slots : c.acknowledgement.new.self.table.slots ≡ c.args.self.now.table.slots =
+    let slots : c.tell_acknowledgement.new.self.table.slots ≡ c.args.self.now.table.slots =
     ap (λ (u : State). u.slots) n.same ∙ k.slots ∙ sym (ap (λ (u : State). u.slots) h.same) in
     let index = c.requires.known in
     let own = times_at c.args.self.now.table.slots index.0
@@ -94,40 +94,40 @@ payload-requires-clause-taken g c =
     (subst (λ (n : ℕ). 0 < times n c.args.self.now.table.slots)
     (sym (id ∙ sym index.1.slot_is)) own)
 
-pub fin-requires : goal.fin-requires
-fin-requires g c =
+pub take_fin-requires : goal.take_fin-requires
+take_fin-requires g c =
     record {
       state = (
         _,
-        c.in_ok-payload.ensures.does _
-            (c.in_ok-acknowledgement.ensures.does _
+        c.in_ok-take_payload.ensures.does _
+            (c.in_ok-tell_acknowledgement.ensures.does _
             (noted _ _ c.args.self.now _ c.requires.state.0 c.args.slot
             c.flow_id-id.result c.requires.state.1 c.note.ensures.noted
             c.note.ensures.free c.note.ensures.room c.note.ensures.givers)),
       );
     }
 
-pub reset-requires-clause-state : goal.reset-requires-clause-state
-reset-requires-clause-state g c = (
+pub take_reset-requires-clause-state : goal.take_reset-requires-clause-state
+take_reset-requires-clause-state g c = (
   _,
-  c.in_ok-fin.ensures.does _ (c.in_ok-payload.ensures.does _
-      (c.in_ok-acknowledgement.ensures.does _
+  c.in_ok-take_fin.ensures.does _ (c.in_ok-take_payload.ensures.does _
+      (c.in_ok-tell_acknowledgement.ensures.does _
       (noted _ _ c.args.self.now _ c.requires.state.0 c.args.slot
       c.flow_id-id.result c.requires.state.1 c.note.ensures.noted
       c.note.ensures.free c.note.ensures.room c.note.ensures.givers))),
 )
 
-pub reset-requires-clause-known : goal.reset-requires-clause-known
-reset-requires-clause-known g c =
+pub take_reset-requires-clause-known : goal.take_reset-requires-clause-known
+take_reset-requires-clause-known g c =
     let h = c.requires.state.1 in
     let k = c.requires.known in
-    let n = c.in_ok-fin.ensures.does _ (c.in_ok-payload.ensures.does _
-    (c.in_ok-acknowledgement.ensures.does _
+    let n = c.in_ok-take_fin.ensures.does _ (c.in_ok-take_payload.ensures.does _
+    (c.in_ok-tell_acknowledgement.ensures.does _
     (noted _ _ c.args.self.now _ c.requires.state.0 c.args.slot c.flow_id-id.result h
     c.note.ensures.noted c.note.ensures.free c.note.ensures.room c.note.ensures.givers))) in (
       k.0,
       known_before g.L.Listener.reader c.requires.state.0 c.args.slot c.flow_id-id.result
-          c.flow_id.result (segment_view c.args.segment) c.args.self.now c.fin.new.self _ _
+          c.flow_id.result (segment_view c.args.segment) c.args.self.now c.take_fin.new.self _ _
           c.args.pair k.0 h.same n.same k.1,
     )
 
@@ -135,32 +135,32 @@ pub hear-requires : goal.hear-requires
 hear-requires g c =
     let h = c.requires.state.1 in
     let k = c.requires.known in
-    let n = c.in_ok-fin.ensures.does _ (c.in_ok-payload.ensures.does _
-    (c.in_ok-acknowledgement.ensures.does _
+    let n = c.in_ok-take_fin.ensures.does _ (c.in_ok-take_payload.ensures.does _
+    (c.in_ok-tell_acknowledgement.ensures.does _
     (noted _ _ c.args.self.now _ c.requires.state.0 c.args.slot c.flow_id-id.result h
     c.note.ensures.noted c.note.ensures.free c.note.ensures.room c.note.ensures.givers))) in
     record {
       state = (
         _,
-        c.in_ok-reset.ensures.does k.0 (known_before g.L.Listener.reader c.requires.state.0
+        c.in_ok-take_reset.ensures.does k.0 (known_before g.L.Listener.reader c.requires.state.0
             c.args.slot c.flow_id-id.result c.flow_id.result (segment_view c.args.segment)
-            c.args.self.now c.fin.new.self _ _ c.args.pair k.0 h.same n.same k.1) _ n,
+            c.args.self.now c.take_fin.new.self _ _ c.args.pair k.0 h.same n.same k.1) _ n,
       );
     }
 
 pub returns-clause-does : goal.returns-clause-does
 returns-clause-does g c index k w h =
     let at = sym k.slot_is ∙ ap (λ (u : State). get_or u.slots index 0) h.same in
-    let n = c.in_ok-fin.ensures.does _ (c.in_ok-payload.ensures.does _
-    (c.in_ok-acknowledgement.ensures.does _
+    let n = c.in_ok-take_fin.ensures.does _ (c.in_ok-take_payload.ensures.does _
+    (c.in_ok-tell_acknowledgement.ensures.does _
     (noted _ _ c.args.self.now _ w c.args.slot c.flow_id-id.result h
     c.note.ensures.noted c.note.ensures.free c.note.ensures.room c.note.ensures.givers))) in
     moved_ok c.hear.result _ _ _ _ _
     (known_is g.L.Listener.reader w index (segment_view c.args.segment) c.args.slot
     c.args.side c.flow_id-id.result c.flow_id.result at (sym c.requires.flow)
     c.flow_id-id.ensures.id
-    (c.flow_id.ensures.id ∙ ap (flow_id c.args.slot) c.other.ensures))
-    (c.hear.ensures.does _ (c.in_ok-reset.ensures.does index
+    (c.flow_id.ensures.id ∙ ap (flow_id c.args.slot) c.opposite_side.ensures))
+    (c.hear.ensures.does _ (c.in_ok-take_reset.ensures.does index
     (known_before g.L.Listener.reader w c.args.slot c.flow_id-id.result c.flow_id.result
-    (segment_view c.args.segment) c.args.self.now c.fin.new.self _ _ c.args.pair index
+    (segment_view c.args.segment) c.args.self.now c.take_fin.new.self _ _ c.args.pair index
     h.same n.same k) _ n))

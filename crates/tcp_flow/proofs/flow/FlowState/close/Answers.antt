@@ -1,6 +1,6 @@
 use Rattle.std.proofs.Common.{refl, sym, subst, ◌∙◌}
 use Rattle.std.proofs.lemmas.Bool.{cond-true, cond-false}
-use Rattle.tcp_flow.specs.Flow.{with_event, lives, out_of_step, stopped, closed}
+use Rattle.tcp_flow.specs.Flow.{with_event, lives, out_of_step, stream_closed, closed}
 use Rattle.tcp_flow.specs.State.{state, IsState}
 use Rattle.tcp_flow.proofs.States.{by_state}
 use Rattle.tcp_flow.proofs.Truth.{true_keeps}
@@ -12,7 +12,7 @@ returns-in_ok-on_close-clause-does g c held f h =
     let G = IsState (g.T.Listener.observed c.on_close.new.self) _ held in
     by_state (λ f. G (closed f c.args.cause)) _ c.args.self.now held f h (λ events o.
     let s = state c.args.self.now held events in
-    subst G (sym (cond-true (lives s.live s.waits) (stopped s s.next c.args.cause)
+    subst G (sym (cond-true (lives s.live s.waits) (stream_closed s s.next c.args.cause)
     (out_of_step s)
     (sym c.is_live-is_live.ensures ∙ c.if-is_live.true)))
     (record { observed = c.in_ok-on_close.ensures.does events o; same = refl }))
@@ -23,7 +23,7 @@ returns-else-is_live-clause-does g c held f h =
     let G = IsState (g.T.Listener.observed c.args.to.now) _ held in
     by_state (λ f. G (closed f c.args.cause)) _ c.args.self.now held f h (λ events o.
     let s = state c.args.self.now held events in
-    subst G (sym (cond-false (lives s.live s.waits) (stopped s s.next c.args.cause)
+    subst G (sym (cond-false (lives s.live s.waits) (stream_closed s s.next c.args.cause)
     (out_of_step s)
     (sym c.is_live-is_live.ensures ∙ c.if-is_live.false)))
     (record { observed = o; same = refl }))

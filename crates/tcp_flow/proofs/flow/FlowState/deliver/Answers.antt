@@ -17,7 +17,7 @@ returns-in_ok-on_close-clause-does g c held f arrival h =
     (sym d.1 ∙ c.in-Some.is)))
     (record {
       observed = c.in_ok-on_close.ensures.does _ d.0;
-      same = rw (c.number_after-self.ensures, c.onward-self.ensures) refl;
+      same = rw (c.number_after_octet-self.ensures, c.onward-self.ensures) refl;
     }))
 
 pub returns-in_default-clause-does : goal.returns-in_default-clause-does

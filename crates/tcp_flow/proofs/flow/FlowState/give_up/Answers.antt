@@ -1,5 +1,5 @@
 use Rattle.std.proofs.Common.{◌≡◌, ◌-◌, ℕ, length, refl, sym, ◌∙◌, ap, subst}
-use Rattle.tcp_flow.specs.Flow.{Flow, heard, gap}
+use Rattle.tcp_flow.specs.Flow.{Flow, heard, with_gap}
 use Rattle.tcp_flow.specs.State.{state, IsState}
 use Rattle.tcp_flow.proofs.Steps.{heard_stops, heard_goes, heard_none}
 use Rattle.tcp_flow.proofs.States.{by_state}
@@ -45,20 +45,21 @@ loop-left-preserved g c =
           let i = c.loop-left.invariant.0 f h in
           by_state (λ d. heard F c.loop-left.left n d
           ≡ heard F c.len-left.result n f → (m : Flow)
-          × (IsState (g.T.Listener.observed c.gap.new.to) c.gap.new.self c.gap.new.pool.held m
+          × (IsState (g.T.Listener.observed c.make_gap.new.to) c.make_gap.new.self
+          c.make_gap.new.pool.held m
           × (heard F (c.loop-left.left - 1) n m
           ≡ heard F c.len-left.result n f))) _ s held i.0 i.1.0 (λ events o e.
           let goes = heard_goes F c.loop-left.left n (state s held events) c.loop-left-test.true
           (sym (c.is_lost.ensures events) ∙ c.if-not-is_lost.false) in (
-            gap F (state s held events),
+            with_gap F (state s held events),
             (
-              c.in_ok-gap.ensures.does (state s held events)
+              c.in_ok-make_gap.ensures.does (state s held events)
                   (record { observed = o; same = refl }),
               sym goes ∙ e,
             ),
           )) i.1.1),
-      c.gap.ensures.id ∙ c.loop-left.invariant.1,
-      c.gap.ensures.blocks ∙ c.loop-left.invariant.2,
+      c.make_gap.ensures.id ∙ c.loop-left.invariant.1,
+      c.make_gap.ensures.blocks ∙ c.loop-left.invariant.2,
     )
 
 pub returns-clause-does : goal.returns-clause-does

@@ -1,6 +1,6 @@
 use Rattle.std.proofs.Common.{◌≡◌, false, ◌≤◌, ℕ, length, sym, subst, ap, arith}
 use Rattle.tcp_waiting.specs.Payload.{blocks_of}
-use Rattle.tcp_flow.specs.Flow.{Flow, at, first_of, heard, is_lost, step}
+use Rattle.tcp_flow.specs.Flow.{Flow, at, oldest_held, heard, is_lost, step}
 use Rattle.tcp_flow.specs.State.{IsState}
 use Rattle.tcp_flow.proofs.Direct.{heard_settled}
 use Rattle.tcp_flow.proofs.States.{held_of, next_of, settled_state, settled_flow}
@@ -39,7 +39,7 @@ returns-clause-settled g c f h t =
     c.args.packet f (settled_flow _ _ _ f h t) (next_of _ _ _ _ n (omega arith)))
 
 pub returns-clause-over : goal.returns-clause-over
-unfolding is_lost first_of at
+unfolding is_lost oldest_held at
 returns-clause-over g c f h =
     let n = c.in_ok-give_up.ensures.does f h in
     let all : length f.held ≤ length c.args.pool.now.held =

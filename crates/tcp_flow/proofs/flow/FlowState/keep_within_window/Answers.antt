@@ -1,6 +1,6 @@
 use Rattle.std.proofs.Common.{◌≡◌, ◌-◌, true, false, refl, sym, ◌∙◌, subst}
-use Rattle.tcp_waiting.specs.Payload.{is_far}
-use Rattle.tcp_flow.specs.Flow.{Flow, within_window, gap}
+use Rattle.tcp_waiting.specs.Payload.{holds_beyond_window}
+use Rattle.tcp_flow.specs.Flow.{Flow, within_window, with_gap}
 use Rattle.tcp_flow.specs.State.{state, IsState}
 use Rattle.tcp_flow.proofs.Steps.{window_stops, window_goes, window_none}
 use Rattle.tcp_flow.proofs.States.{by_state}
@@ -9,8 +9,9 @@ use Rattle.tcp_flow.proofs.flow.FlowState.keep_within_window.Goals as goal
 pub loop-left-init : goal.loop-left-init
 loop-left-init g c = ((λ f h. (f, (h, refl))), refl, refl)
 
-pub returns-then-not-is_far-clause-does : goal.returns-then-not-is_far-clause-does
-returns-then-not-is_far-clause-does g c f h =
+pub returns-then-not-holds_beyond_window-clause-does :
+    goal.returns-then-not-holds_beyond_window-clause-does
+returns-then-not-holds_beyond_window-clause-does g c f h =
     let F = g.T.Listener.reader in
     let s = c.loop-left.self in
     let held = c.loop-left.pool.held in
@@ -18,8 +19,8 @@ returns-then-not-is_far-clause-does g c f h =
     let i = c.loop-left.invariant.0 f h in
     by_state (λ d. within_window F c.loop-left.left d ≡ within_window F c.args.count f →
     G (within_window F c.args.count f)) _ s held i.0 i.1.0 (λ events o e.
-    let few : is_far s.id s.next held ≡ false =
-    sym c.is_far.ensures ∙ c.if-not-is_far.true in
+    let few : holds_beyond_window s.id s.next held ≡ false =
+    sym c.holds_beyond_window.ensures ∙ c.if-not-holds_beyond_window.true in
     subst G (sym (window_stops F c.loop-left.left (state s held events) few) ∙ e)
     (record { observed = o; same = refl })) i.1.1
 
@@ -31,20 +32,21 @@ loop-left-preserved g c =
       (λ f h.
           let i = c.loop-left.invariant.0 f h in
           by_state (λ d. within_window F c.loop-left.left d ≡ within_window F c.args.count f →
-          (n : Flow) × (IsState (g.T.Listener.observed c.gap.new.to) c.gap.new.self
-          c.gap.new.pool.held n × (within_window F (c.loop-left.left - 1) n
+          (n : Flow) × (IsState (g.T.Listener.observed c.make_gap.new.to) c.make_gap.new.self
+          c.make_gap.new.pool.held n × (within_window F (c.loop-left.left - 1) n
           ≡ within_window F c.args.count f))) _ s held i.0 i.1.0 (λ events o e.
-          let much : is_far s.id s.next held ≡ true =
-          sym c.is_far.ensures ∙ c.if-not-is_far.false in (
-            gap F (state s held events),
+          let much : holds_beyond_window s.id s.next held ≡ true =
+          sym c.holds_beyond_window.ensures ∙ c.if-not-holds_beyond_window.false in (
+            with_gap F (state s held events),
             (
-              c.in_ok-gap.ensures.does (state s held events) (record { observed = o; same = refl }),
+              c.in_ok-make_gap.ensures.does (state s held events)
+                  (record { observed = o; same = refl }),
               sym (window_goes F c.loop-left.left (state s held events) c.loop-left-test.true
                   much) ∙ e,
             ),
           )) i.1.1),
-      c.gap.ensures.id ∙ c.loop-left.invariant.1,
-      c.gap.ensures.blocks ∙ c.loop-left.invariant.2,
+      c.make_gap.ensures.id ∙ c.loop-left.invariant.1,
+      c.make_gap.ensures.blocks ∙ c.loop-left.invariant.2,
     )
 
 pub returns-clause-does : goal.returns-clause-does

@@ -2,7 +2,7 @@ use Rattle.std.proofs.Common.{◌≡◌, false, Some, is_some, nat_eq, ◌&&◌,
 use Rattle.std.specs.Prelude.{OnOk}
 use Rattle.std.proofs.lemmas.Bool.{cond-true, cond-false, and_left, and_right, and_from, eq-eqb, ne_eqb}
 use Rattle.tcp_waiting.specs.Numbers.{age}
-use Rattle.tcp_flow.specs.Flow.{gone_on, fin_came}
+use Rattle.tcp_flow.specs.Flow.{gone_on_with_held, fin_came}
 use Rattle.tcp_flow.specs.State.{state, IsState}
 use Rattle.tcp_flow.proofs.States.{by_state, on_ok_equal, with_fin}
 use Rattle.tcp_flow.proofs.flow.FlowState.take_fin.Goals as goal
@@ -15,16 +15,19 @@ returns-then-age-eq0-clause-does g c f h =
     let s = c.args.self.now in
     let n = c.args.number in
     let held = c.args.pool.now.held in
-    by_state (λ f. OnOk c.go_on.result (IsState (g.T.Listener.observed c.go_on.new.to)
-    c.go_on.new.self c.go_on.new.pool.held (fin_came F f n))) _ s held f h (λ events o.
+    by_state (λ f. OnOk c.go_on_with_held.result
+    (IsState (g.T.Listener.observed c.go_on_with_held.new.to)
+    c.go_on_with_held.new.self c.go_on_with_held.new.pool.held (fin_came F f n))) _ s held f h
+    (λ events o.
     let S = state s held events in
-    on_ok_equal c.go_on.result _ _ _ _ _
+    on_ok_equal c.go_on_with_held.result _ _ _ _ _
     (sym (cond-true (is_some s.live && (nat_eq (age s.next n) 0))
-    (gone_on F (record S { fin = Some n })) S
+    (gone_on_with_held F (record S { fin = Some n })) S
     (and_from (is_some s.live) (nat_eq (age s.next n) 0)
     (sym c.is_in_step.ensures ∙ c.if-is_in_step.true)
     (eq-eqb (age s.next n) 0 (sym c.age.ensures ∙ c.if-age-eq0.true)))))
-    (c.go_on.ensures.does _ (with_fin _ s held S (Some n) (record { observed = o; same = refl }))))
+    (c.go_on_with_held.ensures.does _ (with_fin _ s held S (Some n)
+    (record { observed = o; same = refl }))))
 
 pub returns-clause-does : goal.returns-clause-does
 unfolding fin_came
@@ -45,5 +48,5 @@ returns-clause-does g c f h =
     by_state (λ f. G (fin_came F f n)) _ s held f h (λ events o.
     let S = state s held events in
     subst G (sym (cond-false (is_some s.live && (nat_eq (age s.next n) 0))
-    (gone_on F (record S { fin = Some n })) S e))
+    (gone_on_with_held F (record S { fin = Some n })) S e))
     (record { observed = o; same = refl }))

@@ -24,9 +24,9 @@ returns c =
     c.self.invariant.filled
     (subst (λ (v : OrderView). c.args.index < length v.items) (sym c.self.view_is) c.requires) in
     let e = ap deque_len c.index.ensures in
-    let inside : c.args.index % 2048 < length c.index.result.now.items =
+    let inside : c.args.index % 1024 < length c.index.result.now.items =
     omega (arith, s.0, e, c.index.result.now.ok.0) in
-    get_or_read c.index.result.now.items (c.args.index % 2048) c.index-2.result.now inside
+    get_or_read c.index.result.now.items (c.args.index % 1024) c.index-2.result.now inside
     c.index-2.ensures 0
-    ∙ ap (λ b. get_or b.items (c.args.index % 2048) 0) c.index.ensures ∙ sym s.1
+    ∙ ap (λ b. get_or b.items (c.args.index % 1024) 0) c.index.ensures ∙ sym s.1
     ∙ ap (λ (v : OrderView). get_or v.items c.args.index 0) c.self.view_is

@@ -9,7 +9,7 @@ abbrev pub invariant-loop-alloc : goal.invariant-loop-alloc
 invariant-loop-alloc l = record {
   few : vec_len l.blocks ≤ l.count;
   fit : l.count ≤ vec_capacity l.blocks;
-  each : AllByRecursion (λ b. 2048 ≤ deque_capacity b) l.blocks.items;
+  each : AllByRecursion (λ b. 1024 ≤ deque_capacity b) l.blocks.items;
   filled : IsFilled (rows_of l.blocks.items);
   none : concat (rows_of l.blocks.items) ≡ [];
 }

@@ -52,7 +52,7 @@ returns-clause-some c =
 pub returns-then-rank-self-clause-few : goal.returns-then-rank-self-clause-few
 returns-then-rank-self-clause-few c =
     let few = few_ids c.self.inside.ids.items in
-    IfSome_then c.walk_to.result c.walk_to.ensures.some
+    IfSome_then c.id_at_rank.result c.id_at_rank.ensures.some
     (λ id h. omega (arith, h.0, few, c.self.invariant.queue.few))
 
 pub returns-clause-few : goal.returns-clause-few

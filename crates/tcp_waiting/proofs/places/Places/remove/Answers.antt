@@ -1,36 +1,38 @@
-use Rattle.std.proofs.Common.{◌<◌, length, IsSome, ap, arith}
+use Rattle.std.proofs.Common.{reverse, ◌<◌, length, IsSome, ap, arith}
 use Rattle.std.proofs.lemmas.List.{length-map}
 use Rattle.slab.specs.Slab.{get}
-use Rattle.tcp_waiting.specs.Places.{PlacesView, waiting_under}
+use Rattle.tcp_waiting.specs.Places.{PlacesView, waiting_under, numbers_of}
 use Rattle.tcp_waiting.proofs.Held.{all_at}
-use Rattle.tcp_waiting.proofs.Numbered.{IsTaken, is_taken, some_so}
+use Rattle.tcp_waiting.proofs.Numbered.{SlabRemoves, is_taken, some_so}
 use Rattle.tcp_waiting.proofs.places.Places.remove.Goals as goal
 
-taken : (c : goal.After-try_remove) → IsTaken c.self.inside.order.items
-    c.remove-number.new.self.items c.self.inside.slots c.try_remove.new.self c.args.place
+taken : (c : goal.After-try_remove) → SlabRemoves (numbers_of c.self.inside)
+    (reverse c.remove_from_end-number.new.order.items) c.self.inside.slots c.try_remove.new.self
+    c.args.place
 taken c =
     let a = c.self.inside in
-    let within : c.args.place < length a.order.items =
+    let within : c.args.place < length (numbers_of a) =
     omega (
       arith,
       c.requires,
       ap (λ (v : PlacesView). length v.items) c.self.view_is,
-      length-map a.order.items (waiting_under a.slots),
+      length-map (numbers_of a) (waiting_under a.slots),
     ) in
-    let number = c.remove-number.ensures.slot in
+    let number = c.remove_from_end-number.ensures.slot in
     let there : IsSome c.try_remove.result =
     rw (c.try_remove.ensures.value, number)
-    (all_at (λ n. IsSome (get a.slots n)) a.order.items c.args.place 0
+    (all_at (λ n. IsSome (get a.slots n)) (numbers_of a) c.args.place 0
     c.self.invariant.tied.held within) in
-    is_taken a.order.items c.remove-number.new.self.items a.slots c.try_remove.new.self c.args.place
-    c.self.invariant.tied within c.remove-number.ensures.items
+    is_taken (numbers_of a) (reverse c.remove_from_end-number.new.order.items) a.slots
+    c.try_remove.new.self c.args.place
+    c.self.invariant.tied within c.remove_from_end-number.ensures.items
     (rw number at c.try_remove.ensures.updates)
     (some_so c.try_remove.result _ there c.try_remove.ensures.len)
 
 pub invariant_of-self : goal.invariant_of-self
 invariant_of-self c = record {
   tied = (taken c).tied;
-  order = omega (arith, c.remove-number.ensures.most, c.self.invariant.order);
+  order = omega (arith, c.remove_from_end-number.ensures.most, c.self.invariant.order);
   slots = omega (arith, c.try_remove.ensures.capacity, c.self.invariant.slots);
   small = omega (arith, c.try_remove.ensures.capacity, c.self.invariant.small);
 }

@@ -1,25 +1,25 @@
 use Rattle.std.proofs.Common.{◌<◌, length, ap, arith}
 use Rattle.std.proofs.lemmas.List.{length-map}
 use Rattle.slab.specs.Slab.{with_value}
-use Rattle.tcp_waiting.specs.Places.{PlacesView, waiting_under}
-use Rattle.tcp_waiting.proofs.Numbered.{IsReplaced, is_replaced}
+use Rattle.tcp_waiting.specs.Places.{PlacesView, waiting_under, numbers_of}
+use Rattle.tcp_waiting.proofs.Numbered.{SlabReplaces, is_replaced}
 use Rattle.tcp_waiting.proofs.places.Places.replace.Goals as goal
 
-replaced : (c : goal.After-self-1) → IsReplaced c.self.inside.order.items c.self.inside.slots
-    (with_value c.self.inside.slots c.at-number.result c.args.waiting) c.args.place
+replaced : (c : goal.After-self-1) → SlabReplaces (numbers_of c.self.inside) c.self.inside.slots
+    (with_value c.self.inside.slots c.slot_from_end-number.result c.args.waiting) c.args.place
     c.args.waiting
 replaced c =
     let a = c.self.inside in
-    let within : c.args.place < length a.order.items =
+    let within : c.args.place < length (numbers_of a) =
     omega (
       arith,
       c.requires,
       ap (λ (v : PlacesView). length v.items) c.self.view_is,
-      length-map a.order.items (waiting_under a.slots),
+      length-map (numbers_of a) (waiting_under a.slots),
     ) in
-    is_replaced a.order.items a.slots c.args.place c.at-number.result c.args.waiting
+    is_replaced (numbers_of a) a.slots c.args.place c.slot_from_end-number.result c.args.waiting
     c.self.invariant.tied within
-    c.at-number.ensures
+    c.slot_from_end-number.ensures
 
 pub invariant_of-self : goal.invariant_of-self
 invariant_of-self c = record {

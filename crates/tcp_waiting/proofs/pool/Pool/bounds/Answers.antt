@@ -4,12 +4,13 @@ use Rattle.tcp_waiting.proofs.Held.{length_held}
 use Rattle.tcp_waiting.proofs.Order.{place_within}
 use Rattle.tcp_waiting.proofs.pool.Pool.bounds.Goals as goal
 
-pub returns-then-is_before-2-clause-high : goal.returns-then-is_before-2-clause-high
-returns-then-is_before-2-clause-high c =
+pub loop-low-init : goal.loop-low-init
+loop-low-init c =
     let a = c.self.inside in
-    rw (← c.self.view_is) (omega (
-      arith,
-      place_within c.args.wanted (held_in a.octets.items a.waiting.items),
-      length_held a.octets.items a.waiting.items,
-      c.len-then-is_before-2.ensures.items,
-    ))
+    let n = length_held a.octets.items a.waiting.items in
+    let w = place_within c.args.wanted (held_in a.octets.items a.waiting.items) in
+    rw (← c.self.view_is) (
+      omega arith,
+      omega (arith, w, n, c.len-high.ensures.items),
+      omega (arith, n, c.len-high.ensures.items),
+    )

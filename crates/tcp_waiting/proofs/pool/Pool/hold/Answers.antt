@@ -1,9 +1,9 @@
 use Rattle.std.proofs.Common.{◌≡◌, ◌<◌, ◌≤◌, ◌+◌, ◌/◌, ◌++◌, length, length-append, get_or, List, ℕ, Option, Some, None, IfSome, false, arith, refl, sym, subst, ◌∙◌, ap, inl, inr}
 use Rattle.std.specs.List.{insert}
-use Rattle.tcp_waiting.specs.declared.pool.Near.{Near}
+use Rattle.tcp_waiting.specs.declared.pool.KnownEnds.{KnownEnds}
 use Rattle.tcp_waiting.specs.declared.pool.Waiting.{Waiting}
-use Rattle.tcp_waiting.specs.Payload.{Payload, payload, blocks_of, load_of, key_of, place_of, put}
-use Rattle.tcp_waiting.specs.Layout.{held_in, IsSmall, is_far_but}
+use Rattle.tcp_waiting.specs.Payload.{Payload, payload, blocks_of, key_of, place_of, put}
+use Rattle.tcp_waiting.specs.Layout.{held_in, IsSmall, holds_beyond_window_but}
 use Rattle.tcp_waiting.specs.Pool.{PoolView}
 use Rattle.tcp_waiting.proofs.Held.{length_held, held_inserted, all_insert, within_more, ok_items}
 use Rattle.tcp_waiting.proofs.Counts.{load_insert, load_most}
@@ -11,7 +11,7 @@ use Rattle.tcp_waiting.proofs.Ends.{far_insert, far_none_but, itself, another, s
 use Rattle.tcp_waiting.proofs.Order.{place_within, ordered_insert}
 use Rattle.tcp_waiting.proofs.Queries.{blocks_insert, since_before}
 use Rattle.tcp_waiting.proofs.Packing.{counts_blocks, length_blocks}
-use Rattle.tcp_waiting.proofs.pool.Pool.hold.Goals.{then-is_far, else-is_far}
+use Rattle.tcp_waiting.proofs.pool.Pool.hold.Goals.{then-holds_beyond_window, else-holds_beyond_window}
 use Rattle.tcp_waiting.proofs.pool.Pool.hold.Goals as goal
 
 pub make_room-requires-clause-room : goal.make_room-requires-clause-room
@@ -22,8 +22,8 @@ make_room-requires-clause-room c =
     rw (← c.self.view_is) at c.requires.room in
     omega (arith, counts_blocks a.octets.items a.waiting.items c.self.invariant.within, room)
 
-pub load_more-requires : goal.load_more-requires
-load_more-requires c at l =
+pub add_load-requires : goal.add_load-requires
+add_load-requires c at l =
     let a = c.self.inside in
     let before = held_in a.octets.items a.waiting.items in
     omega (
@@ -127,14 +127,16 @@ invariant_of-self c =
     let top : length c.extend_from_slice-copied.new.self.items
     ≡ length mr.octets.items + length c.args.octets.now =
     ap length h.octets ∙ length-append mr.octets.items c.args.octets.now in
-    let known : IfSome c.if-is_far.near (λ m. is_far_but c.args.flow m.base m.number m.count
-    (put p before) ≡ false) = elim c.if-is_far.branch [
-      | then-is_far b ↦ rw b.near-is tt
-      | else-is_far b ↦
+    let known : IfSome c.if-holds_beyond_window.near
+    (λ m. holds_beyond_window_but c.args.flow m.base m.number m.count
+    (put p before) ≡ false) = elim c.if-holds_beyond_window.branch [
+      | then-holds_beyond_window b ↦ rw b.near-is tt
+      | else-holds_beyond_window b ↦
           rw b.near-is (far_insert c.args.flow c.args.next c.args.number
           (length c.args.octets.now) before place p
           (far_none_but c.args.flow c.args.next c.args.number (length c.args.octets.now) before
-          (rw (← c.self.view_is) at (sym c.is_far.ensures ∙ b.if-is_far.false)))
+          (rw (← c.self.view_is) at (sym c.holds_beyond_window.ensures
+          ∙ b.if-holds_beyond_window.false)))
           (itself c.args.flow c.args.next p))
     ] in
     record {
@@ -173,20 +175,23 @@ invariant_of-self c =
         blocks_insert before place p,
       );
       loads = λ flow l.
-          (let l' : flow < length a.loads.items = omega (arith, l, c.load_more.ensures.len) in
+          (let l' : flow < length a.loads.items = omega (arith, l, c.add_load.ensures.len) in
           rw (
-            c.load_more.ensures.loads flow l',
+            c.add_load.ensures.loads flow l',
             c.self.invariant.loads flow l',
             h.held,
             load_insert flow before place p,
             c.blocks_for-2.ensures,
           ) refl);
       nears = λ flow n is. rw h.held (elim (set_cases a.nears.items c.args.flow flow
-          c.if-is_far.near n (ap (λ (xs : List (Option Near)). get_or xs flow None)
+          c.if-holds_beyond_window.near n (ap (λ (xs : List (Option KnownEnds)). get_or xs flow
+          None)
           (sym c.note.ensures) ∙ is)) [
-            | inl e ↦ subst (λ (id : ℕ). is_far_but id n.base n.number n.count (put p before)
-                ≡ false) (sym e.0) (subst (λ (o : Option Near). IfSome o (λ m.
-                is_far_but c.args.flow m.base m.number m.count (put p before) ≡ false)) e.1 known)
+            | inl e ↦ subst (λ (id : ℕ). holds_beyond_window_but id n.base n.number n.count
+                (put p before)
+                ≡ false) (sym e.0) (subst (λ (o : Option KnownEnds). IfSome o (λ m.
+                holds_beyond_window_but c.args.flow m.base m.number m.count (put p before) ≡ false))
+                e.1 known)
             | inr e ↦ far_insert flow n.base n.number n.count before place p
                 (c.self.invariant.nears flow n e.1)
                 (another flow n.base n.number n.count p e.0)

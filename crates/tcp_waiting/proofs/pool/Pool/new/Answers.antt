@@ -1,11 +1,11 @@
 use Rattle.std.proofs.Common.{◌≡◌, ◌<◌, arith, refl, replicate}
 use Rattle.std.proofs.lemmas.List.{get_or-replicate}
 use Rattle.tcp_waiting.specs.Payload.{blocks_of, load_of}
-use Rattle.tcp_waiting.specs.Layout.{AreOrdered, is_far_but}
+use Rattle.tcp_waiting.specs.Layout.{AreOrdered, holds_beyond_window_but}
 use Rattle.tcp_waiting.proofs.pool.Pool.new.Goals as goal
 
 pub invariant_of-result : goal.invariant_of-result
-unfolding blocks_of load_of AreOrdered is_far_but
+unfolding blocks_of load_of AreOrdered holds_beyond_window_but
 invariant_of-result c = record {
   within = rw c.in_ok-waiting.ensures.empty tt;
   roomy = record {

@@ -29,8 +29,8 @@ overflow_sub-self c =
           c.self.invariant.within within c.at-removed.ensures,
     )
 
-pub load_less-requires : goal.load_less-requires
-load_less-requires c l =
+pub subtract_load-requires : goal.subtract_load-requires
+subtract_load-requires c l =
     let a = c.self.inside in
     let w = c.at-removed.result in
     let within : c.args.index < length a.waiting.items =
@@ -84,10 +84,10 @@ invariant_of-self c =
         ap (λ (ws : List Waiting). blocks_of (held_in a.octets.items ws)) c.remove.ensures.items,
       );
       loads = λ flow l.
-          (let l' : flow < length a.loads.items = omega (arith, l, c.load_less.ensures.len) in
+          (let l' : flow < length a.loads.items = omega (arith, l, c.subtract_load.ensures.len) in
           omega (
             arith,
-            rw c.blocks_for-2.ensures at (c.load_less.ensures.loads flow l'),
+            rw c.blocks_for-2.ensures at (c.subtract_load.ensures.loads flow l'),
             c.self.invariant.loads flow l',
             ap (λ (ws : List Waiting). load_of flow (held_in a.octets.items ws))
                 c.remove.ensures.items,
@@ -98,7 +98,7 @@ invariant_of-self c =
           (c.self.invariant.nears flow n is));
       since = rw held (elim (cases_eq (length (remove before c.args.index)) 0) [
         | inl e ↦ rw (nil_from_length (remove before c.args.index) e) tt
-        | inr ne ↦ rw (c.since_when-self-inside.ensures (omega (
+        | inr ne ↦ rw (c.since_if_any-self-inside.ensures (omega (
           arith,
           ne,
           c.len.ensures.items,

@@ -1,6 +1,0 @@
--- A read that was interrupted gave nothing.
-use Rattle.std.specs.Io.KnownBytes.{Keeps}
-use Rattle.giop_run.proofs.reading.retried.Given as goal
-
-abbrev pub invariant-loop-try : goal.invariant-loop-try
-invariant-loop-try g l = Keeps (g.R.Read.remaining l.fn.reader) (g.R.Read.remaining l.reader)
