@@ -9,15 +9,14 @@ part of one line; `old:` stands in the file once, as the pairs before it have le
 names that proofs cite. An edit of a constant has a line `in: MODULE::FUNCTION` that names the function that refuses it.
 
 A function is proved from the contracts of what it calls and not from their bodies, so wrong bodies of different functions
-don't touch each other. The edits of different functions of a crate are made in one copy, and one check of the copy tells of
-each function which goals of its own fail; to call a function that isn't proved is no goal of its own. A second edit of a
+don't touch each other. The edits of different functions of a crate are made in one copy, and one check of these functions
+tells of each which goals of its own fail; to call a function that isn't proved is no goal of its own. A second edit of a
 function is made in a twin of it: the same function under another name, beside it, with its contract and a copy of its proof.
-A second one of a trait's method, or of a line in no function, waits for a second round: another copy, of which the edited
-functions alone are checked, for nearly the time of a whole check. There is no third edit of a function. The status is 0 where
-each edited function has a failed goal of its own and no other function has one. Else it is 1, and each fault is told by name:
-an edit that isn't refused, one whose text is missing or stands there twice, one in no function, a third of one function, and
-a function that has no edit and fails. An edit after which a proof names what is gone, and no goal fails by what it says,
-shows nothing: it is told, and with --strict it is a fault.
+A second one of a trait's method, or of a line in no function, waits for a second round: another copy. There is no third edit
+of a function. The status is 0 where each edited function has a failed goal of its own. Else it is 1, and each fault is told
+by name: an edit that isn't refused, one whose text is missing or stands there twice, one in no function, a third of one
+function, and a function that is checked with them, has no edit and fails. An edit after which a proof names what is gone, and
+no goal fails by what it says, shows nothing: it is told, and with --strict it is a fault.
 
 The libraries below a crate are used as `rt ci` leaves them in out/; `rt check` would prove them once more, since it takes
 only what checks have kept. At its end `rt ci` puts back what stood in out/rlib before, so an old library there is used, and
@@ -301,8 +300,7 @@ def below(name: str, top: Path) -> list[str]:
 
 
 def words_of(name: str, only: list[str], top: Path) -> list[str]:
-    """The words by which `rt check` has a crate checked, or only some functions of it and what they call, over the libraries
-    that stand in the repository."""
+    """The words by which `rt check` has some functions of a crate checked, over the libraries that stand in the repository."""
     kit = kit_of()
     uses = uses_of(top)
     ours = [it for it in uses[name] if it in uses]
@@ -341,8 +339,9 @@ def is_ended(said: str) -> bool:
     return re.search(r"(?m)^(?:logic=(?:not-)?proved|only=\d)", said) is not None
 
 
-def checked(name: str, edits: list[Edit], only: list[str], top: Path, anew: bool) -> str:
-    """What one check says of a copy of the crate with some edits, now or when it was made of the same."""
+def checked(name: str, edits: list[Edit], top: Path, anew: bool) -> str:
+    """What a check of the edited functions says of a copy of the crate, now or when it was made of the same."""
+    only = [edit.function for edit in edits]
     with tempfile.TemporaryDirectory(prefix=f"edits-{name}-") as made:
         crate = Path(made) / name
         shutil.copytree(top / "crates" / name, crate, ignore=shutil.ignore_patterns("out", "wrong", "must-fail"))
@@ -378,14 +377,10 @@ def keep(file: Path, text: str) -> None:
             old.unlink()
 
 
-def tried(
-    name: str, edits: list[Edit], is_first: bool, top: Path, anew: bool
-) -> tuple[list[str], list[str], list[str]]:
-    """What refuses each edit of a round, a line each; those that only take a name away; and what is wrong. The first round
-    shows too that no other function of the crate fails."""
-    only = [] if is_first else [edit.function for edit in edits]
+def tried(name: str, edits: list[Edit], top: Path, anew: bool) -> tuple[list[str], list[str], list[str]]:
+    """What refuses each edit of a round, a line each; those that only take a name away; and what is wrong."""
     try:
-        said = checked(name, edits, only, top, anew)
+        said = checked(name, edits, top, anew)
     except Fault as why:
         return [], [], [f"{name}: {why}"]
     if not is_ended(said):
@@ -439,9 +434,7 @@ def main() -> int:
     else:
         with ThreadPoolExecutor(asked.lanes) as lanes:
             runs = [
-                lanes.submit(tried, name, edits, at == 0, top, asked.anew)
-                for name, rounds in plans.items()
-                for at, edits in enumerate(rounds)
+                lanes.submit(tried, name, edits, top, asked.anew) for name, rounds in plans.items() for edits in rounds
             ]
             for run in as_completed(runs):
                 told, without, wrong = run.result()

@@ -32,14 +32,14 @@ abbrev pub enhanced_type : ℕ
 enhanced_type = 6
 
 -- the least total length that a block of a type needs, for its fixed fields
-abbrev pub least_length : (kind : ℕ) → ℕ
+abbrev pub least_length : (block_type : ℕ) → ℕ
 least_length kind =
     if kind == interface_type then 20
     else (if kind == enhanced_type then 32 else (if kind == simple_type then 16 else 12))
 
 -- the length of a section header block, in both byte orders; the byte-order magic after it tells
 -- which order is the right one
-abbrev pub length_by_order : (offset : ℕ) (octets : List ℕ) → Outcome
+abbrev pub length_by_order : (offset_of_length : ℕ) (octets : List ℕ) → Outcome
 length_by_order at octets =
     Continues (parts.ByteOrderMagic (record {
       big = four_at Big at octets;
@@ -49,7 +49,7 @@ length_by_order at octets =
 unfoldable pub section_length : (octets : List ℕ) → Outcome
 section_length octets = length_by_order 0 octets
 
-unfoldable pub section : (order : ByteOrder) (length : ℕ) → Outcome
+unfoldable pub section : (order : ByteOrder) (block_length : ℕ) → Outcome
 section order length =
     if (length % 4 == 0) && nat_le 28 length
     then Continues
@@ -71,7 +71,8 @@ section_version block octets =
 
 -- what comes after the type and the length of a block, in a section that has this number of
 -- interfaces
-unfoldable pub block_of : (order : ByteOrder) (kind length interfaces : ℕ) → Outcome
+unfoldable pub block_of : (order : ByteOrder) (block_type block_length interface_count : ℕ) →
+    Outcome
 block_of order kind length interfaces =
     if kind == interface_type then
     (if nat_lt interfaces most_interfaces
@@ -87,7 +88,7 @@ block_of order kind length interfaces =
     Continues (parts.BlockEnd (record { order = order; length = length; left = length - 12 }))))
 
 -- the type and the length of a block
-unfoldable pub block_header : (order : ByteOrder) (interfaces : ℕ) (octets : List ℕ) → Outcome
+unfoldable pub block_header : (order : ByteOrder) (interface_count : ℕ) (octets : List ℕ) → Outcome
 block_header order interfaces octets =
     let kind = four_at order 0 octets in
     let length = four_at order 4 octets in
@@ -97,7 +98,8 @@ block_header order interfaces octets =
 
 -- what comes among the options of a block: another option, if there is room for its header after
 -- `skip` octets of the one before, else the block's end
-unfoldable pub options : (block : Block) (interface : Interface) (skip : ℕ) → Outcome
+unfoldable pub options : (block : Block) (interface : Interface) (octets_of_option_to_skip : ℕ) →
+    Outcome
 options block interface skip =
     if nat_le (skip + 4) block.left
     then Continues
@@ -115,7 +117,7 @@ interface_header block octets =
     }) 0
 
 -- a number of octets with their padding to a multiple of 4
-abbrev pub padded : (count : ℕ) → ℕ
+abbrev pub padded : (count_before_padding_to_4 : ℕ) → ℕ
 padded count = (count + 3) / 4 * 4
 
 -- the code and the length of an option; code 0 ends the options, and so does a value that there is
@@ -132,7 +134,7 @@ option_header block interface octets =
 
 -- how many units make a second: 10 to the number, or, if the number's highest bit is set, 2 to the
 -- number without it
-abbrev pub units_in_second : (unit : ℕ) → ℕ
+abbrev pub units_in_second : (resolution_octet : ℕ) → ℕ
 units_in_second unit = if nat_lt unit 128 then 10 ^ unit else 2 ^ (unit - 128)
 
 -- the unit of times, and then three octets of padding; a unit below 10^-19 or 2^-63 seconds is out
@@ -162,18 +164,18 @@ packet_of block body =
     Continues (parts.Packet (record block { left = block.left - body.captured }) body)
 
 -- a number of units in nanoseconds, rounded down
-abbrev pub nanoseconds_of : (units ticks : ℕ) → ℕ
+abbrev pub nanoseconds_of : (unit_count units_per_second : ℕ) → ℕ
 nanoseconds_of units ticks = units * 1000000000 / ticks
 
 -- a number of units in nanoseconds since 1970; from the year 10000 on there is none (nor if no unit
 -- makes a second, which no interface can say)
-unfoldable pub time_of : (units ticks : ℕ) → Option ℕ
+unfoldable pub time_of : (unit_count units_per_second : ℕ) → Option ℕ
 time_of units ticks =
     if (ticks == 0) || nat_le (253402300800 * 1000000000) (nanoseconds_of units ticks)
     then None else Some (nanoseconds_of units ticks)
 
 -- the upper half of a time and then the lower one
-abbrev pub units_at : (order : ByteOrder) (octets : List ℕ) → ℕ
+abbrev pub units_at : (order : ByteOrder) (time_octets : List ℕ) → ℕ
 units_at order octets = four_at order 0 octets * 2 ^ 32 + four_at order 4 octets
 
 -- the time of an enhanced packet, and the length that was captured
@@ -189,12 +191,12 @@ enhanced_header block interface octets =
     })
 
 -- how many octets of a packet an interface captures, by the packet's original length
-abbrev pub captured_size : (original snapshot : ℕ) → ℕ
+abbrev pub captured_size : (original_length snapshot_length : ℕ) → ℕ
 captured_size original snapshot = if snapshot == 0 then original else min original snapshot
 
 -- a simple packet is of interface 0, and has no time
-abbrev pub of_first_interface : (block : Block) (original : ℕ) (interface : Option Interface) →
-    Outcome
+abbrev pub of_first_interface : (block : Block) (original_length : ℕ)
+    (interface : Option Interface) → Outcome
 of_first_interface block original None = Fails faults.Interface
 of_first_interface block original (Some interface) =
     packet_of block (record {
@@ -210,6 +212,7 @@ simple_header block interfaces octets =
     of_first_interface block (four_at block.order 0 octets) (slice_get interfaces 0)
 
 -- the second length of a block, which must be the first one again
-unfoldable pub block_end : (block : Block) (octets : List ℕ) (outcome : Outcome) → Outcome
+unfoldable pub block_end : (block : Block) (octets : List ℕ) (outcome_if_lengths_agree : Outcome) →
+    Outcome
 block_end block octets outcome =
     if four_at block.order 0 octets == block.length then outcome else Fails faults.Format

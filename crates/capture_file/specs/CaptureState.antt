@@ -11,14 +11,15 @@ use Rattle.capture_file.specs.Reading.{ParserState, Ending, Within, Faulted, rea
 
 -- a part has begun, and these octets of it have come; the capture holds those of them that are at
 -- the part's front or at its end
-pub record HoldsPart (capture : Capture) (state : ParserState) (had : List ℕ) : Type 0 where
+pub record HoldsPart (capture : Capture) (state : ParserState) (part_octets_so_far : List ℕ)
+    : Type 0 where
   pub running : capture.fault ≡ None
   pub part : capture.part ≡ state.part
   pub interfaces : capture.interfaces.items ≡ state.interfaces
-  pub taken : capture.taken ≡ length had
-  pub packet_octets : IsHeld 0 (front state.part) had capture.packet_octets.items
+  pub taken : capture.taken ≡ length part_octets_so_far
+  pub packet_octets : IsHeld 0 (front state.part) part_octets_so_far capture.packet_octets.items
   pub end_octets : IsHeld (front state.part + passed state.part)
-      (back state.part) had capture.end_octets
+      (back state.part) part_octets_so_far capture.end_octets
 
 abbrev pub HoldsEnding : (capture : Capture) (ending : Ending) → Type 0
 HoldsEnding c (Within state at had) = HoldsPart c state had
@@ -40,11 +41,12 @@ abbrev pub octets_of : (capture : Capture) → ℕ
 octets_of c = c.octets
 
 -- the packet stands in what the capture holds, or in the octets that were given last
-abbrev pub PacketIsWithin : (is_held : Bool) (end : ℕ) (held octets : List ℕ) → Type 0
+abbrev pub PacketIsWithin : (is_held : Bool) (packet_end : ℕ) (held_octets given_octets : List ℕ) →
+    Type 0
 PacketIsWithin true end held octets = end ≤ length held
 PacketIsWithin false end held octets = end ≤ length octets
 
-abbrev pub PacketIsIn : (capture : Capture) (octets : List ℕ) → Type 0
+abbrev pub PacketIsIn : (capture : Capture) (given_octets : List ℕ) → Type 0
 PacketIsIn c octets = PacketIsWithin c.packet_range.held c.packet_range.end c.packet_octets.items
     octets
 
@@ -52,18 +54,18 @@ PacketIsIn c octets = PacketIsWithin c.packet_range.held c.packet_range.end c.pa
 abbrev pub info_in : (capture : Capture) → PacketInfo
 info_in c = c.packet_range.info
 
-abbrev pub octets_around : (capture : Capture) (octets : List ℕ) → List ℕ
+abbrev pub octets_around : (capture : Capture) (given_octets : List ℕ) → List ℕ
 octets_around c octets = if c.packet_range.held then c.packet_octets.items else octets
 
-abbrev pub octets_in : (capture : Capture) (octets : List ℕ) → List ℕ
+abbrev pub octets_in : (capture : Capture) (given_octets : List ℕ) → List ℕ
 octets_in c octets =
     slice_range (octets_around c octets) c.packet_range.start c.packet_range.end
 
 -- The answer after octets were taken that come after `before`. They are the first ones of those
 -- given, and only the last of them completes or shows anything. The answer is that more octets can
 -- be taken, that a packet is complete, or that a fault shows.
-abbrev pub Answers : (progress : Progress) (before taken : List ℕ) (capture : Capture)
-    (octets : List ℕ) → Type 0
+abbrev pub Answers : (progress : Progress) (octets_before octets_taken : List ℕ) (capture : Capture)
+    (given_octets : List ℕ) → Type 0
 Answers progress.More before taken c octets =
     (packets (before ++ taken) ≡ packets before) × (fault (before ++ taken) ≡ None)
 Answers progress.Packet before taken c octets =

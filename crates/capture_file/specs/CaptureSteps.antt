@@ -18,27 +18,29 @@ use Rattle.capture_file.specs.Records.{IsWholeRecord}
 -- This piece of the part that has begun is held. Only those of its octets are kept that will be
 -- looked at, or given to the caller, when the part is complete. They are held after the octets that
 -- came before.
-pub record HoldsPiece (old new : Capture) (piece : List ℕ) : Type 0 where
+pub record HoldsPiece (old new : Capture) (piece_of_part : List ℕ) : Type 0 where
   pub part : new.part ≡ old.part
   pub interfaces : new.interfaces.items ≡ old.interfaces.items
   pub fault : new.fault ≡ old.fault
   pub packets : new.packets ≡ old.packets
-  pub come : min (old.taken + length piece) (front old.part) ≤ length new.packet_octets.items
+  pub come : min (old.taken + length piece_of_part) (front old.part)
+      ≤ length new.packet_octets.items
   pub packet_octets : (had : List ℕ) → length had ≡ old.taken →
       IsHeld 0 (front old.part) had old.packet_octets.items →
-      IsHeld 0 (front old.part) (had ++ piece) new.packet_octets.items
+      IsHeld 0 (front old.part) (had ++ piece_of_part) new.packet_octets.items
   pub end_octets : (had : List ℕ) → length had ≡ old.taken →
       IsHeld (front old.part + passed old.part) (back old.part) had old.end_octets →
-      IsHeld (front old.part + passed old.part) (back old.part) (had ++ piece) new.end_octets
+      IsHeld (front old.part + passed old.part) (back old.part) (had ++ piece_of_part)
+      new.end_octets
 
 -- octets were counted
-pub record CountsOctets (old new : Capture) (count : ℕ) : Type 0 where
+pub record CountsOctets (old new : Capture) (octets_counted : ℕ) : Type 0 where
   pub part : new.part ≡ old.part
   pub interfaces : new.interfaces.items ≡ old.interfaces.items
   pub taken : new.taken ≡ old.taken
   pub fault : new.fault ≡ old.fault
   pub packets : new.packets ≡ old.packets
-  pub octets : new.octets ≡ old.octets + count
+  pub octets : new.octets ≡ old.octets + octets_counted
 
 -- a packet ends, and this is its place
 pub record EndsPacketAt (old new : Capture) (range : PacketRange) : Type 0 where
@@ -52,8 +54,8 @@ pub record EndsPacketAt (old new : Capture) (range : PacketRange) : Type 0 where
   pub packet_range : new.packet_range ≡ range
 
 -- a part begins after another one
-pub record PartBegins (old new : Capture) (state : Part) : Type 0 where
-  pub part : new.part ≡ state
+pub record PartBegins (old new : Capture) (new_part : Part) : Type 0 where
+  pub part : new.part ≡ new_part
   pub interfaces : new.interfaces.items ≡ interfaces_behind old.part old.interfaces.items
   pub taken : new.taken ≡ 0
   pub fault : new.fault ≡ old.fault
@@ -61,8 +63,8 @@ pub record PartBegins (old new : Capture) (state : Part) : Type 0 where
   pub packet_octets : new.packet_octets.items ≡ old.packet_octets.items
 
 -- a part is complete; it began at this index of the octets that the caller gave, or is held
-abbrev pub Completes : (outcome : Outcome) (old new : Capture) (answer : Progress) (start : ℕ)
-    (held : Bool) → Type 0
+abbrev pub Completes : (outcome : Outcome) (old new : Capture) (answer : Progress)
+    (part_start_in_given : ℕ) (part_is_held : Bool) → Type 0
 Completes (Continues part) old new answer start held =
     (answer ≡ progress.More) × PartBegins old new part × (new.packets ≡ old.packets)
 Completes (EndsPacket info part) old new answer start held =
@@ -79,24 +81,25 @@ Completes (Fails kind) old new answer start held =
     × (new.packets ≡ old.packets) × (new.octets ≡ old.octets)
 
 -- a record may begin, and these octets begin with the whole record
-pub record IsRecordDue (c : Capture) (given : List ℕ) (info : PacketInfo) (captured : ℕ) :
-    Type 0 where
+pub record IsRecordDue (capture : Capture) (given_octets : List ℕ) (packet_info : PacketInfo)
+    (captured_length : ℕ) : Type 0 where
   pub file : FileHeader
-  pub part : c.part ≡ parts.RecordHeader file
-  pub fresh : c.taken ≡ 0
-  pub whole : IsWholeRecord file given info captured
+  pub part : capture.part ≡ parts.RecordHeader file
+  pub fresh : capture.taken ≡ 0
+  pub whole : IsWholeRecord file given_octets packet_info captured_length
 
 -- a whole record was taken, which begins at this index of the octets that the caller gave
-pub record TakesRecord (old new : Capture) (info : PacketInfo) (start captured : ℕ) : Type 0 where
+pub record TakesRecord (old new : Capture) (packet_info : PacketInfo)
+    (record_start_in_given captured_length : ℕ) : Type 0 where
   pub part : new.part ≡ old.part
   pub interfaces : new.interfaces.items ≡ old.interfaces.items
   pub taken : new.taken ≡ old.taken
   pub fault : new.fault ≡ old.fault
-  pub octets : new.octets ≡ old.octets + (16 + captured)
+  pub octets : new.octets ≡ old.octets + (16 + captured_length)
   pub packets : new.packets ≡ suc old.packets
   pub packet_range : new.packet_range ≡ record {
-    info = info;
-    start = start + 16;
-    end = start + (16 + captured);
+    info = packet_info;
+    start = record_start_in_given + 16;
+    end = record_start_in_given + (16 + captured_length);
     held = false;
   }

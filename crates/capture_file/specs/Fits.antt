@@ -20,10 +20,10 @@ interfaces_added _ = 0
 
 -- there is room for the packet at the part's front, and the part adds at most this number of
 -- interfaces
-abbrev pub HasRoom : (more : ℕ) (part : Part) → Type 0
+abbrev pub HasRoom : (most_interfaces_added : ℕ) (part : Part) → Type 0
 HasRoom more part = (front part ≤ room) × (interfaces_added part ≤ more)
 
-abbrev pub Fits : (more : ℕ) (outcome : Outcome) → Type 0
+abbrev pub Fits : (most_interfaces_added : ℕ) (outcome : Outcome) → Type 0
 Fits more (Continues part) = HasRoom more part
 Fits more (EndsPacket info part) = HasRoom more part
 Fits more (Fails kind) = Unit {0}

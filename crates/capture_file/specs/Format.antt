@@ -9,7 +9,8 @@ use Rattle.capture_file.specs.declared.part.Outcome.TheVariants.{Continues, Ends
 use Rattle.capture_file.specs.Records.{beginning, file_version, file_rest, record_header, record_end}
 use Rattle.capture_file.specs.Blocks.{section_length, byte_order_magic, section_version, block_header, interface_header, option_header, time_unit, enhanced_interface, enhanced_header, simple_header, block_end}
 
-abbrev pub outcome_after : (part : Part) (interfaces : List Interface) (octets : List ℕ) → Outcome
+abbrev pub outcome_after : (part : Part) (interfaces : List Interface)
+    (octets_at_part_end : List ℕ) → Outcome
 outcome_after parts.Beginning interfaces octets = beginning octets
 outcome_after (parts.FileVersion magic) interfaces octets = file_version magic octets
 outcome_after (parts.FileRest magic) interfaces octets = file_rest magic octets
@@ -38,7 +39,7 @@ outcome_after (parts.BlockEnd block) interfaces octets =
 
 -- the interfaces of the section after a part: a section begins with none, and each interface
 -- description adds one
-abbrev pub interfaces_behind : (part : Part) (interfaces : List Interface) → List Interface
+abbrev pub interfaces_behind : (part : Part) (interfaces_before : List Interface) → List Interface
 interfaces_behind (parts.ByteOrderMagic length) interfaces = []
 interfaces_behind (parts.InterfaceEnd block interface) interfaces = interfaces ++ interface ∷ []
 interfaces_behind _ interfaces = interfaces

@@ -7,13 +7,13 @@ use Rattle.capture_file.specs.declared.part.Part.TheVariants as parts
 
 -- how many octets of a part belong to a packet, with the original length if that stands directly
 -- before the packet's own
-abbrev pub front : Part → ℕ
+abbrev pub front : (part_with_packet_at_front : Part) → ℕ
 front (parts.Record file info captured) = 4 + captured
 front (parts.Packet block body) = body.packet_offset + body.captured
 front _ = 0
 
 -- how many octets are skipped after those
-abbrev pub passed : Part → ℕ
+abbrev pub passed : (part_with_skipped_octets : Part) → ℕ
 passed (parts.OptionHeader block interface skip) = skip
 passed (parts.InterfaceEnd block interface) = block.left
 passed (parts.Packet block body) = block.left
@@ -21,7 +21,7 @@ passed (parts.BlockEnd block) = block.left
 passed _ = 0
 
 -- how many octets at a part's end are looked at
-abbrev pub back : Part → ℕ
+abbrev pub back : (part_with_header_at_end : Part) → ℕ
 back (parts.Record file info captured) = 0
 back (parts.TimeUnit block interface) = 1
 back (parts.BlockHeader order) = 8

@@ -30,7 +30,7 @@ major_octets Big = 0 ∷ 2 ∷ []
 major_octets Little = 2 ∷ 0 ∷ []
 
 -- a number of the file
-unfoldable pub number_octets : (order : ByteOrder) (number : ℕ) → List ℕ
+unfoldable pub number_octets : (order : ByteOrder) (four_octet_number : ℕ) → List ℕ
 number_octets Big number = to_be_bytes w32 number
 number_octets Little number = to_le_bytes w32 number
 
@@ -79,7 +79,8 @@ pub record IsPcapRecord (pcap_record : PcapRecord) : Type 0 where
   pub few : length pcap_record.octets ≤ 262144
 
 -- the packet of a record that ends at this place
-abbrev pub packet_of : (file : PcapFile) (place : ℕ) (pcap_record : PcapRecord) → PacketRecord
+abbrev pub packet_of : (file : PcapFile) (record_end_place : ℕ) (pcap_record : PcapRecord) →
+    PacketRecord
 packet_of f place r = record {
   place = place;
   info = record {
@@ -90,7 +91,7 @@ packet_of f place r = record {
 }
 
 -- the packets of records that begin at this place
-unfoldable pub packets_of : (file : PcapFile) (place : ℕ) (records : List PcapRecord) →
+unfoldable pub packets_of : (file : PcapFile) (first_record_place : ℕ) (records : List PcapRecord) →
     List PacketRecord
 packets_of f place [] = []
 packets_of f place (r ∷ rs) =

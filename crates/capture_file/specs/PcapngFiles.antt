@@ -11,7 +11,7 @@ use Rattle.capture_file.specs.PcapFiles.{number_octets}
 use Rattle.capture_file.specs.Reading.{PacketRecord, packets, final_fault}
 
 -- a number of two octets
-unfoldable pub half_octets : (order : ByteOrder) (number : ℕ) → List ℕ
+unfoldable pub half_octets : (order : ByteOrder) (two_octet_number : ℕ) → List ℕ
 half_octets Big number = to_be_bytes w16 number
 half_octets Little number = to_le_bytes w16 number
 
@@ -111,11 +111,11 @@ pub record IsPcapngFile (file : PcapngFile) : Type 0 where
   pub few : section_size file < 2 ^ 32
 
 -- the length is one that a block may have
-pub record HasLength (length : ℕ) : Type 0 where
-  pub whole : length % 4 ≡ 0
-  pub few : length < 2 ^ 32
+pub record HasLength (block_length : ℕ) : Type 0 where
+  pub whole : block_length % 4 ≡ 0
+  pub few : block_length < 2 ^ 32
 
-abbrev pub is_unit_in_range : (unit : ℕ) → Bool
+abbrev pub is_unit_in_range : (resolution_octet : ℕ) → Bool
 is_unit_in_range unit = nat_lt unit 20 || (nat_le 128 unit && nat_lt unit 192)
 
 -- The option's code isn't the one that ends the options, the length of its value fits its field,
@@ -131,18 +131,18 @@ pub record IsOption (option : BlockOption) : Type 0 where
 
 -- how many units make a second, by the options: those of microseconds, unless an option says
 -- another number
-unfoldable pub ticks_by : (ticks : ℕ) (options : List BlockOption) → ℕ
+unfoldable pub ticks_by : (units_per_second_before : ℕ) (options : List BlockOption) → ℕ
 ticks_by ticks [] = ticks
 ticks_by ticks (x ∷ xs) =
     ticks_by (if is_unit x then units_in_second (slice_index x.value 0) else ticks) xs
 
-abbrev pub interface_of : (link snapshot : ℕ) (options : List BlockOption) → Interface
+abbrev pub interface_of : (link_type snapshot_length : ℕ) (options : List BlockOption) → Interface
 interface_of link snapshot options =
     record { link = link; snapshot = snapshot; ticks = ticks_by 1000000 options }
 
 -- the block may stand in a section that has these interfaces
-abbrev pub IsBlock : (order : ByteOrder) (interfaces : List Interface) (block : PcapngBlock) →
-    Type 0
+abbrev pub IsBlock : (order : ByteOrder) (interfaces_before : List Interface)
+    (block : PcapngBlock) → Type 0
 IsBlock o interfaces (InterfaceBlock link snapshot options) =
     (length interfaces < most_interfaces) × (link < 2 ^ 16) × (snapshot < 2 ^ 32)
     × AllByRecursion IsOption options
@@ -161,7 +161,7 @@ IsBlock o interfaces (OtherBlock kind body) =
     × (kind ≢ section_type) × (kind < 2 ^ 32) × HasLength (length_of o (OtherBlock kind body))
 
 -- the interfaces of the section after a block
-abbrev pub with_block : (interfaces : List Interface) (block : PcapngBlock) → List Interface
+abbrev pub with_block : (interfaces_before : List Interface) (block : PcapngBlock) → List Interface
 with_block interfaces (InterfaceBlock link snapshot options) =
     interfaces ++ interface_of link snapshot options ∷ []
 with_block interfaces (EnhancedBlock interface high low original octets behind) = interfaces
@@ -169,15 +169,15 @@ with_block interfaces (SimpleBlock original octets behind) = interfaces
 with_block interfaces (OtherBlock kind body) = interfaces
 
 -- each block may stand after those before it
-unfoldable pub AreBlocks : (order : ByteOrder) (interfaces : List Interface)
+unfoldable pub AreBlocks : (order : ByteOrder) (interfaces_before : List Interface)
     (blocks : List PcapngBlock) → Type 0
 AreBlocks o interfaces [] = Unit {0}
 AreBlocks o interfaces (b ∷ bs) =
     IsBlock o interfaces b × AreBlocks o (with_block interfaces b) bs
 
 -- the packet of an enhanced packet block that ends at this place, by its interface, with its time
-abbrev pub enhanced_packet : (place units : ℕ) (octets : List ℕ) (interface : Option Interface) →
-    List PacketRecord
+abbrev pub enhanced_packet : (block_end_place time_in_units : ℕ) (octets : List ℕ)
+    (interface : Option Interface) → List PacketRecord
 enhanced_packet place units octets None = []
 enhanced_packet place units octets (Some interface) = record {
   place = place;
@@ -186,7 +186,7 @@ enhanced_packet place units octets (Some interface) = record {
 } ∷ []
 
 -- the packet of a simple packet block that ends at this place, by its interface, without a time
-abbrev pub simple_packet : (place : ℕ) (octets : List ℕ) (interface : Option Interface) →
+abbrev pub simple_packet : (block_end_place : ℕ) (octets : List ℕ) (interface : Option Interface) →
     List PacketRecord
 simple_packet place octets None = []
 simple_packet place octets (Some interface) = record {
@@ -196,7 +196,7 @@ simple_packet place octets (Some interface) = record {
 } ∷ []
 
 -- the packet of a block that ends at this place, if it has one, by the interfaces before it
-abbrev pub packet_of_block : (interfaces : List Interface) (place : ℕ)
+abbrev pub packet_of_block : (interfaces_before : List Interface) (block_end_place : ℕ)
     (block : PcapngBlock) → List PacketRecord
 packet_of_block interfaces place (InterfaceBlock link snapshot options) = []
 packet_of_block interfaces place (EnhancedBlock interface high low original octets behind) =
@@ -206,8 +206,8 @@ packet_of_block interfaces place (SimpleBlock original octets behind) =
 packet_of_block interfaces place (OtherBlock kind body) = []
 
 -- the packets of blocks that begin at this place, in a section that has these interfaces
-unfoldable pub packets_of_blocks : (order : ByteOrder) (interfaces : List Interface) (place : ℕ)
-    (blocks : List PcapngBlock) → List PacketRecord
+unfoldable pub packets_of_blocks : (order : ByteOrder) (interfaces_before : List Interface)
+    (first_block_place : ℕ) (blocks : List PcapngBlock) → List PacketRecord
 packets_of_blocks o interfaces place [] = []
 packets_of_blocks o interfaces place (b ∷ bs) =
     packet_of_block interfaces (place + length_of o b) b

@@ -36,17 +36,17 @@ pub record Reading : Type 0 where
   pub ending : Ending
 
 -- the octets at a part's end
-abbrev pub end_of : (part : Part) (octets : List ℕ) → List ℕ
+abbrev pub end_of : (part : Part) (part_octets : List ℕ) → List ℕ
 end_of part octets = take (back part) (drop (front part + passed part) octets)
 
 -- the octets of the packet at a part's front
-abbrev pub packet_in : (part : Part) (octets : List ℕ) → List ℕ
+abbrev pub packet_in : (part : Part) (part_octets : List ℕ) → List ℕ
 packet_in part octets = drop (packet_offset part) (take (front part) octets)
 
 -- how a reading goes on after a part that ends at this place; `packet` is the packet's octets, if
 -- the part ends one
-abbrev pub behind : (state : ParserState) (packet : List ℕ) (place : ℕ) (outcome : Outcome)
-    (rest : ParserState → Reading) → Reading
+abbrev pub behind : (state_at_part : ParserState) (packet_octets : List ℕ) (part_end_place : ℕ)
+    (outcome_of_part : Outcome) (reading_after_part : ParserState → Reading) → Reading
 behind state packet place (Continues part) rest =
     rest (record { part = part; interfaces = interfaces_behind state.part state.interfaces })
 behind state packet place (EndsPacket info part) rest =
@@ -59,8 +59,8 @@ behind state packet place (Fails kind) rest =
 -- The reading of octets, if this part comes next after `at` other octets. The first number is a
 -- bound on how many parts are read. Each part has at least one octet, so there are no more parts
 -- than octets.
-unfoldable pub reading_from : (most : ℕ) (state : ParserState) (offset : ℕ) (octets : List ℕ) →
-    Reading
+unfoldable pub reading_from : (most_parts : ℕ) (state : ParserState) (capture_octets_before : ℕ)
+    (octets : List ℕ) → Reading
 reading_from zero state at octets = record { packets = []; ending = Within state at octets }
 reading_from (suc most) state at octets =
     if nat_lt (length octets) (size state.part)
@@ -88,13 +88,14 @@ fault_of (Faulted fault) = Some fault
 abbrev pub fault : (capture : List ℕ) → Option CaptureFault
 fault capture = fault_of (reading capture).ending
 
-abbrev pub truncated_at : (place : ℕ) (part : Part) (numbers : List ℕ) → Option CaptureFault
+abbrev pub truncated_at : (capture_end_place : ℕ) (next_part : Part) (part_octets_so_far : List ℕ) →
+    Option CaptureFault
 truncated_at place part (octet ∷ octets) = Some (record { kind = Truncated; place = place })
 truncated_at place part [] =
     if may_end_before part then None else Some (record { kind = Truncated; place = place })
 
 -- the fault that a capture shows at its end, if it ends after this number of octets
-abbrev pub fault_at_end : (place : ℕ) (ending : Ending) → Option CaptureFault
+abbrev pub fault_at_end : (capture_end_place : ℕ) (ending : Ending) → Option CaptureFault
 fault_at_end place (Within state at octets) = truncated_at place state.part octets
 fault_at_end place (Faulted fault) = Some fault
 

@@ -69,7 +69,8 @@ record_end file info = EndsPacket info (parts.RecordHeader file)
 
 -- the octets begin with a whole record: its header, the original length, and a packet of this
 -- number of octets
-pub record IsWholeRecord (file : FileHeader) (octets : List ℕ) (info : PacketInfo) (captured : ℕ) :
-    Type 0 where
-  pub header : record_header file (take 12 octets) ≡ Continues (parts.Record file info captured)
-  pub within : 16 + captured ≤ length octets
+pub record IsWholeRecord (file : FileHeader) (octets : List ℕ) (info : PacketInfo)
+    (captured_length : ℕ) : Type 0 where
+  pub header : record_header file (take 12 octets)
+      ≡ Continues (parts.Record file info captured_length)
+  pub within : 16 + captured_length ≤ length octets

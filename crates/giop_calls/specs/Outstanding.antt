@@ -6,11 +6,11 @@ use Rattle.giop_entry_table.specs.declared.entry_table.Entry.{Entry}
 
 module _ {V : Type 0} where
   -- the calls of other ids
-  abbrev pub without : (id : ℕ) (calls : List (Entry V)) → List (Entry V)
+  abbrev pub without : (request_id : ℕ) (calls : List (Entry V)) → List (Entry V)
   without id calls = filter (λ e. not (e.key == id)) calls
 
   -- the newest of the calls, at most `most` of them
-  abbrev pub newest : (most : ℕ) (calls : List (Entry V)) → List (Entry V)
+  abbrev pub newest : (most_calls : ℕ) (calls : List (Entry V)) → List (Entry V)
   newest most calls = drop (length calls - most) calls
 
   -- each call has an id of its own

@@ -25,7 +25,8 @@ packet_arrived F w p =
     with_segment F (with_packet w p.info.time) (segment p.info.link p.octets)
 
 -- after all packets, in their order
-unfoldable pub after_packets : (F : Reader) (w : State) (takens : List PacketView) → State
+unfoldable pub after_packets : (reader : Reader) (before : State) (packets : List PacketView) →
+    State
 after_packets F w [] = w
 after_packets F w (p ∷ ps) = after_packets F (packet_arrived F w p) ps
 
@@ -45,7 +46,7 @@ with_fault w (Some fault) = with_capture_event w (HasFault (fault_word fault.kin
 
 -- after a whole capture with these octets: its packets, then its fault, and then the end of its
 -- connections
-unfoldable pub capture_ended : (F : Reader) (w : State) (capture : List ℕ) → State
+unfoldable pub capture_ended : (reader : Reader) (before : State) (capture : List ℕ) → State
 capture_ended F w capture =
     ended F (with_fault (after_packets F w (capture_packets capture)) (final_fault capture))
 
@@ -57,12 +58,12 @@ most_links = 16
 
 -- the link types that a notice was given of, after one more packet of this link type: if it isn't
 -- read, its first packet gives a notice
-abbrev pub links_noted : (noted : List ℕ) (link : ℕ) → List ℕ
+abbrev pub links_noted : (noted_before : List ℕ) (link_type : ℕ) → List ℕ
 links_noted noted link = if is_link_read link then noted else noted_after most_links noted link
 
 -- the link types that a notice was given of, after all packets, if a notice was given of `noted`
 -- before
-unfoldable pub links_from : (noted : List ℕ) (takens : List PacketView) → List ℕ
+unfoldable pub links_from : (noted_before : List ℕ) (packets : List PacketView) → List ℕ
 links_from noted [] = noted
 links_from noted (p ∷ ps) = links_from (links_noted noted p.info.link) ps
 
@@ -71,19 +72,20 @@ links_noticed packets = links_from [] packets
 
 -- the notice of a packet of this link type: only the first packet of a link type that isn't read
 -- has one
-abbrev pub link_notices : (noted : List ℕ) (link : ℕ) → List Notice
+abbrev pub link_notices : (noted_before : List ℕ) (link_type : ℕ) → List Notice
 link_notices noted link =
     if is_link_read link then [] else cond (is_new_link most_links noted link) (UnreadLink link
     ∷ []) []
 
 -- the notices of packets that come to a state, if a notice was given of these link types before
-unfoldable pub notices_from : (F : Reader) (w : State) (noted : List ℕ) (takens : List PacketView) →
-    List Notice
+unfoldable pub notices_from : (reader : Reader) (before : State) (noted_before : List ℕ)
+    (packets : List PacketView) → List Notice
 notices_from F w noted [] = []
 notices_from F w noted (p ∷ ps) =
     (link_notices noted p.info.link
     ++ new_notices (seen w.events) (seen (packet_arrived F w p).events))
     ++ notices_from F (packet_arrived F w p) (links_noted noted p.info.link) ps
 
-abbrev pub notices_due : (F : Reader) (w : State) (packets : List PacketView) → List Notice
+abbrev pub notices_due : (reader : Reader) (before : State) (packets : List PacketView) →
+    List Notice
 notices_due F w packets = notices_from F w [] packets

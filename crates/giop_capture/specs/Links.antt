@@ -4,11 +4,11 @@ use Rattle.std.specs.Prelude.{ℕ, ◌==◌, ◌||◌, Bool, cond, not, ltb, Lis
 use Rattle.std.specs.List.{list_any}
 
 -- whether a link type is new: it isn't among those of `noted`, and these are fewer than `most`
-abbrev pub is_new_link : (most : ℕ) (noted : List ℕ) (link : ℕ) → Bool
+abbrev pub is_new_link : (most_noted : ℕ) (noted_before : List ℕ) (link_type : ℕ) → Bool
 is_new_link room noted link = not (list_any (λ other. other == link) noted
     || not (ltb (length noted)
     room))
 
 -- the link types of `noted` after one more packet of a link type that isn't read
-abbrev pub noted_after : (most : ℕ) (noted : List ℕ) (link : ℕ) → List ℕ
+abbrev pub noted_after : (most_noted : ℕ) (noted_before : List ℕ) (unread_link_type : ℕ) → List ℕ
 noted_after room noted link = cond (is_new_link room noted link) (noted ++ link ∷ []) noted

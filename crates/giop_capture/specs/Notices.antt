@@ -9,7 +9,7 @@ use Rattle.giop_capture.specs.declared.notices.Notice.TheVariants.{NoRoom, Tls, 
 use Rattle.giop_capture.specs.declared.notices.Seen.{Seen}
 
 -- a notice that is given once: when its cause has been seen now and had not been seen before
-abbrev pub notice_if_new : (notice : Notice) (before after : Bool) → List Notice
+abbrev pub notice_if_new : (notice : Notice) (was_seen_before is_seen_now : Bool) → List Notice
 notice_if_new notice before after = cond (after && not before) (notice ∷ []) []
 
 -- whether a stream closes because its connection makes room for another one
@@ -35,7 +35,7 @@ begins_as_ziop octets =
     && nat_eq (get_or octets 2 0) 79 && nat_eq (get_or octets 3 0) 80
 
 -- whether an event is a payload in which no stream begins, and `is` holds of its octets
-abbrev pub passes_by : (is : List ℕ → Bool) (event : Event) → Bool
+abbrev pub passes_by : (holds_of_octets : List ℕ → Bool) (event : Event) → Bool
 passes_by is (OfCapture (Passes octets)) = is octets
 passes_by is _ = false
 

@@ -10,10 +10,10 @@ use Rattle.giop_capture.specs.declared.notices.Notice.{Notice}
 
 -- From this start on, the connections have the state that these packets lead to, and the notices
 -- that are due of them were given.
-pub record HasRead (O : List Event → Type 0) (Told : List Notice → Type 0) (F : Reader)
-    (c : Connections) (live links : List ℕ)
-    (start : State) (packets : List PacketView) : Type 0 where
-  pub state : IsState O live c (after_packets F start packets)
-  pub few : c.segments ≤ length packets
-  pub all : links ≡ links_noticed packets
-  pub told : Told (notices_due F start packets)
+pub record HasRead (Observed : List Event → Type 0) (Told : List Notice → Type 0) (reader : Reader)
+    (connections : Connections) (live_flow_ids links_with_notice : List ℕ)
+    (start_state : State) (packets : List PacketView) : Type 0 where
+  pub state : IsState Observed live_flow_ids connections (after_packets reader start_state packets)
+  pub few : connections.segments ≤ length packets
+  pub all : links_with_notice ≡ links_noticed packets
+  pub told : Told (notices_due reader start_state packets)

@@ -7,7 +7,7 @@ use Rattle.giop_capture.specs.declared.failure.DumpError.{DumpError}
 use Rattle.giop_capture.specs.declared.failure.DumpError.TheVariants as failures
 
 -- If a read failed, or there were too many reads, all that was put can be seen.
-abbrev pub SeenWhereReadingFailed : {O : Type 0} (log : O → OutLog) (kept : O → List ℕ)
+abbrev pub SeenWhereReadingFailed : {O : Type 0} (log : O → OutLog) (kept_back : O → List ℕ)
     (dump_error : DumpError O) → Type 0
 SeenWhereReadingFailed log kept (failures.Step fault) = Unit {0}
 SeenWhereReadingFailed log kept (failures.Run runs.Read out) = IsSeen log kept (log out).written

@@ -38,35 +38,36 @@ capture_of asked = option_map (λ name. name.now) asked.capture
 
 -- What is known of a dump before it begins is true: its setup is the one that the arguments ask
 -- for, with these types, and this was written before.
-abbrev pub BeginsAs : (begins : Setup → List ℕ → Type 0) (asked : Arguments) (table : Table)
-    (before : Option (List ℕ)) → Type 0
+abbrev pub BeginsAs : (begins_with : Setup → List ℕ → Type 0) (asked : Arguments) (table : Table)
+    (written_before : Option (List ℕ)) → Type 0
 BeginsAs begins asked table before =
     (S : Setup) (written : List ℕ) → begins S written
     → (S ≡ setup table asked.messages asked.calls asked.connections asked.first_stream)
     × (before ≡ Some written)
 
 -- A source was read to the end of a capture or to the capture's fault, after which nothing was
--- read. `source` tells the octets of the source, if they are known. What was put is what was
+-- read. `source_octets` are those of the source, if they are known. What was put is what was
 -- written before, then the text of what the capture's packets, its fault and its end do if no
 -- connection was known before, then the capture's last line, and nothing else. In it the lines of
 -- each stream are giopdump's. The ending says whether there was a fault.
-pub record CaptureDumped (ending : Ending) (begins : Setup → List ℕ → Type 0) (asked : Arguments)
-    (source put : Option (List ℕ)) : Type 0 where
+pub record CaptureDumped (ending : Ending) (begins_with : Setup → List ℕ → Type 0)
+    (asked : Arguments) (source_octets all_put : Option (List ℕ)) : Type 0 where
   pub left : Option (List ℕ)
   pub octets : List ℕ
-  pub given : Consumes source left octets
+  pub given : Consumes source_octets left octets
   pub read : List ℕ
   pub rest : List ℕ
   pub parts : octets ≡ read ++ rest
   pub over : (IsAtEnd left × (rest ≡ [])) ⊎ IsSome (fault read)
   pub faulty : Bool
   pub ends : ending ≡ ending_of (final_fault read) faulty
-  pub text : (S : Setup) (written : List ℕ) → begins S written
+  pub text : (S : Setup) (written : List ℕ) → begins_with S written
       → HasText S written
       (capture_ended stream_reader (none_known asked.ports.items asked.pool asked.connections [])
       read).events
-      (length (packets read)) (length read) faulty put
-  pub streams : (S : Setup) (written : List ℕ) (known : begins S written) → HasStreams S written
+      (length (packets read)) (length read) faulty all_put
+  pub streams : (S : Setup) (written : List ℕ) (known : begins_with S written)
+      → HasStreams S written
       (capture_ended stream_reader (none_known asked.ports.items asked.pool asked.connections [])
       read).events
       (length (packets read)) (length read) (text S written known)
@@ -74,21 +75,21 @@ pub record CaptureDumped (ending : Ending) (begins : Setup → List ℕ → Type
 -- The reading of a capture stopped after some octets of a source. What was put is what was written
 -- before, and then the text of what the packets in these octets do if no connection was known
 -- before, and nothing else.
-pub record ReadInPart (begins : Setup → List ℕ → Type 0) (asked : Arguments)
-    (source put : Option (List ℕ)) : Type 0 where
+pub record ReadInPart (begins_with : Setup → List ℕ → Type 0) (asked : Arguments)
+    (source_octets all_put : Option (List ℕ)) : Type 0 where
   pub left : Option (List ℕ)
   pub octets : List ℕ
-  pub given : Consumes source left octets
-  pub text : (S : Setup) (written : List ℕ) → begins S written
+  pub given : Consumes source_octets left octets
+  pub text : (S : Setup) (written : List ℕ) → begins_with S written
       → HasTextSoFar S written
       (after_packets stream_reader (none_known asked.ports.items asked.pool asked.connections [])
       (capture_packets octets)).events
-      put
+      all_put
 
 -- A read failed; or the reads were used up, and each of them gave an octet; or the writing of the
 -- lines failed: a put or a flush of the out.
-abbrev pub RunFailed : (begins : Setup → List ℕ → Type 0) (asked : Arguments)
-    (source : Option (List ℕ)) (fault : ProgramError) (log : Option OutLog) → Type 0
+abbrev pub RunFailed : (begins_with : Setup → List ℕ → Type 0) (asked : Arguments)
+    (source_octets : Option (List ℕ)) (fault : ProgramError) (log_if_begun : Option OutLog) → Type 0
 RunFailed begins asked source (faults.Run runs.Read) (Some log) =
     ReadInPart begins asked source log.written
 RunFailed begins asked source (faults.Run runs.Turns) (Some log) =
@@ -97,9 +98,9 @@ RunFailed begins asked source (faults.Run runs.Out) (Some log) = 0 < log.failure
 RunFailed begins asked source _ _ = ⊥
 
 -- why a capture wasn't dumped: the first step that failed, or the run, with the log of its out
-abbrev pub NotDumped : (held : KnownFiles) (refuses : FileErrors) (source : Option (List ℕ))
-    (begins : Setup → List ℕ → Type 0) (asked : Arguments) (fault : ProgramError)
-    (log : Option OutLog) → Type 0
+abbrev pub NotDumped : (held : KnownFiles) (refuses : FileErrors) (source_octets : Option (List ℕ))
+    (begins_with : Setup → List ℕ → Type 0) (asked : Arguments) (fault : ProgramError)
+    (log_if_begun : Option OutLog) → Type 0
 NotDumped held refuses source begins asked fault log =
     NoCatalogues held refuses (signatures_of asked) fault
     ⊎ ((C : Table) × CataloguesOf held (signatures_of asked) C

@@ -7,19 +7,21 @@ use Rattle.giop_capture.specs.Streams.{ShowsEachStream, EachHasSlot}
 
 -- The events lead to a dump of a capture with this number of packets and octets. What was put is
 -- what was written before the dump began, then its text and its last line, and nothing else.
--- `faulty` tells whether it has a fault, or a stream that was cut.
-pub record HasText (S : Setup) (written : List ℕ) (events : List Event) (packets octets : ℕ)
-    (faulty : Bool) (put : Option (List ℕ)) : Type 0 where
+-- `has_fault_or_cut` tells whether it has a fault, or a stream that was cut.
+pub record HasText (S : Setup) (text_before : List ℕ) (events : List Event)
+    (packet_count capture_octet_count : ℕ) (has_fault_or_cut : Bool) (all_put : Option (List ℕ))
+    : Type 0 where
   pub dump : Dump
-  pub leads : Leads S (start S written) events dump
-  pub text : put ≡ Some (finished_text dump packets octets)
-  pub is_faulty : faulty ≡ (dump.is_cut || nat_lt 0 dump.faults)
+  pub leads : Leads S (start S text_before) events dump
+  pub text : all_put ≡ Some (finished_text dump packet_count capture_octet_count)
+  pub is_faulty : has_fault_or_cut ≡ (dump.is_cut || nat_lt 0 dump.faults)
 
 -- In this text the lines of each stream are giopdump's, each stream with a slot has closed, and
 -- each stream that began has a slot.
 abbrev pub HasStreams : {faulty : Bool} {put : Option (List ℕ)} →
-    (S : Setup) (written : List ℕ) (events : List Event) (packets octets : ℕ) →
-    HasText S written events packets octets faulty put → Type 0
+    (S : Setup) (text_before : List ℕ) (events : List Event)
+    (packet_count capture_octet_count : ℕ) →
+    HasText S text_before events packet_count capture_octet_count faulty put → Type 0
 HasStreams S written events packets octets h =
     ShowsEachStream S written (history S no_history (start S written) events h.dump h.leads)
     h.dump.text
@@ -27,8 +29,8 @@ HasStreams S written events packets octets h =
 
 -- The events lead to a dump. What was put is what was written before the dump began, and then its
 -- text, and nothing else.
-pub record HasTextSoFar (S : Setup) (written : List ℕ) (events : List Event)
-    (put : Option (List ℕ)) : Type 0 where
+pub record HasTextSoFar (S : Setup) (text_before : List ℕ) (events : List Event)
+    (all_put : Option (List ℕ)) : Type 0 where
   pub dump : Dump
-  pub leads : Leads S (start S written) events dump
-  pub text : put ≡ Some dump.text
+  pub leads : Leads S (start S text_before) events dump
+  pub text : all_put ≡ Some dump.text

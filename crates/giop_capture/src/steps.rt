@@ -24,9 +24,8 @@ use crate::teller::{Beginning, Teller};
 use crate::{Arguments, Ending, Notices, PacketReader, dump_capture, packet_reader};
 use capture_file::Capture;
 use giop_conversation::{Conversations, Limits};
-use giop_run::{
-    Flush, Inputs, ProgramError, RunFault, Source, joint_catalogue, open_file, requests,
-};
+use giop_print::Flush;
+use giop_run::{Inputs, ProgramError, RunFault, Source, joint_catalogue, open_file, requests};
 use giop_sig::{Catalogue, Requests};
 use std::alloc::{AllocError, Global};
 

@@ -7,7 +7,7 @@ ghost use Rattle.giop_capture.specs.Notices.{is_for_room, seen, seen_after};
 use crate::{CaptureListener, Seen, begins_as_tls, begins_as_ziop};
 use capture_file::CaptureFault;
 use giop_conversation::Conversations;
-use giop_run::Flush;
+use giop_print::Flush;
 use std::marker::PhantomData;
 use tcp_flow::{CloseCause, Listener, ListenerError, Start};
 use tcp_segment::Flow;

@@ -25,17 +25,17 @@ num Little octets = little_endian_number octets
 
 -- the signed number that a number of this many octets is in two's complement: if its most
 -- significant bit is set, it is less by 2 to the number of its bits
-unfoldable pub twos_complement : (size number : ℕ) → ℤ
+unfoldable pub twos_complement : (octet_count unsigned_number : ℕ) → ℤ
 twos_complement size number = if nat_lt number (2 ^ (8 * size - 1)) then pos number else
     (pos number -ℤ pos (2 ^ (8 * size)))
 
 -- a boolean is 0 or 1
-abbrev pub truth_of : (number : ℕ) → Option Number
+abbrev pub truth_of : (whole_number : ℕ) → Option Number
 truth_of number = if number == 0 then Some (numbers.Truth false) else
     (if number == 1 then Some (numbers.Truth true) else None)
 
 -- the value that a whole number is as a primitive; a boolean above 1 has none
-abbrev pub interpreted_as : (primitive : Primitive) (number : ℕ) → Option Number
+abbrev pub interpreted_as : (primitive : Primitive) (whole_number : ℕ) → Option Number
 interpreted_as prims.Octet number = Some (numbers.Unsigned number)
 interpreted_as prims.Char number = Some (numbers.Char number)
 interpreted_as prims.Boolean number = truth_of number
@@ -49,5 +49,5 @@ interpreted_as prims.Float number = Some (numbers.Bits number)
 interpreted_as prims.Double number = Some (numbers.Bits number)
 
 -- the value that octets are as a primitive
-abbrev pub number_of : (prim : Primitive) (order : Order) (octets : List ℕ) → Option Number
+abbrev pub number_of : (primitive : Primitive) (order : Order) (octets : List ℕ) → Option Number
 number_of prim order octets = interpreted_as prim (num order octets)

@@ -16,14 +16,14 @@ RecordKindHasRange OpenWithoutId = Unit {0}
 RecordKindHasRange OverWithoutId = Unit {0}
 
 -- the ranges that the types of the code give the fields of each record
-pub record HasTypeRanges (r : Record) : Type 0 where
-  pub record_kind : RecordKindHasRange r.record_kind
-  pub number : r.number < 2 ^ 64
-  pub header : length r.header ≡ 12
+pub record HasTypeRanges (record_fields : Record) : Type 0 where
+  pub record_kind : RecordKindHasRange record_fields.record_kind
+  pub number : record_fields.number < 2 ^ 64
+  pub header : length record_fields.header ≡ 12
 
-pub record RecordHasRange (r : Record) : Type 0 where
-  pub frames : r.frames ≤ MOST_FRAMES
-  pub typed : HasTypeRanges r
+pub record RecordHasRange (record_fields : Record) : Type 0 where
+  pub frames : record_fields.frames ≤ MOST_FRAMES
+  pub typed : HasTypeRanges record_fields
 
 -- ---- layout
 
@@ -59,19 +59,19 @@ pub record StoredRecord : Type 0 where
 abbrev pub stored_record_octets : (stored : StoredRecord) → List ℕ
 stored_record_octets e = own_octets e.record_is ++ e.message ++ e.frames
 
-pub record StoredRecordHasRange (e : StoredRecord) : Type 0 where
-  pub own : RecordHasRange e.record_is
-  pub message : length e.message ≡ MESSAGE_SIZE
-  pub frames : length e.frames ≡ FRAME_SIZE * e.record_is.frames
+pub record StoredRecordHasRange (stored : StoredRecord) : Type 0 where
+  pub own : RecordHasRange stored.record_is
+  pub message : length stored.message ≡ MESSAGE_SIZE
+  pub frames : length stored.frames ≡ FRAME_SIZE * stored.record_is.frames
 
 -- ---- lengths
 
 -- how many octets a record has; the first of its octets is its number of frames
-abbrev pub first_record_length : (octets : List ℕ) → ℕ
+abbrev pub first_record_length : (octets_of_records : List ℕ) → ℕ
 first_record_length octets = RECORD_SIZE + FRAME_SIZE * get_or octets 0 0
 
 -- the octets are this many records, each as long as its first octet says, and nothing follows them
-abbrev pub AreRecords : (count : ℕ) (octets : List ℕ) → Type 0
+abbrev pub AreRecords : (record_count : ℕ) (octets : List ℕ) → Type 0
 AreRecords zero octets = octets ≡ []
 AreRecords (suc count) octets =
     (first_record_length octets ≤ length octets) × AreRecords count

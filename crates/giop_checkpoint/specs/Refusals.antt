@@ -12,43 +12,43 @@ use Rattle.giop_checkpoint.specs.Layouts.{version_of, reads_layout}
 use Rattle.giop_checkpoint.specs.Fixed.{HasRange, magic, counts_octets, state_octets}
 use Rattle.giop_checkpoint.specs.Records.{AreRecords}
 
-abbrev pub HasFixedPart : (octets : List ℕ) → Type 0
+abbrev pub HasFixedPart : (checkpoint : List ℕ) → Type 0
 HasFixedPart octets = FIXED_SIZE ≤ length octets
 
-abbrev pub HasMagic : (octets : List ℕ) → Type 0
+abbrev pub HasMagic : (checkpoint : List ℕ) → Type 0
 HasMagic octets = take 8 octets ≡ magic
 
 -- the version belongs to this layout
-abbrev pub HasLayoutVersion : (octets : List ℕ) (layout : Layout) → Type 0
+abbrev pub HasLayoutVersion : (checkpoint : List ℕ) (layout : Layout) → Type 0
 HasLayoutVersion octets layout = take 4 (drop 8 octets) ≡ four (version_of layout)
 
 -- the layout is one that is read with a signature file of this version
-abbrev pub HasVersion : (version : ℕ) (octets : List ℕ) → Type 0
+abbrev pub HasVersion : (signature_file_version : ℕ) (checkpoint : List ℕ) → Type 0
 HasVersion version octets =
     (layout : Layout) × (reads_layout version layout ≡ true) × HasLayoutVersion octets layout
 
-abbrev pub HasCounts : (counts : Counts) (octets : List ℕ) → Type 0
+abbrev pub HasCounts : (counts : Counts) (checkpoint : List ℕ) → Type 0
 HasCounts c octets = take 16 (drop 12 octets) ≡ counts_octets c
 
 -- these are the checkpoint's fields after the counts, each in its range
-pub record HasState (c : Counts) (f : Fixed) (s : List ℕ) : Type 0 where
+pub record HasState (expected_counts : Counts) (fields : Fixed) (checkpoint : List ℕ) : Type 0 where
   pub layout : Layout
-  pub read : reads_layout c.version layout ≡ true
-  pub laid_out : HasLayoutVersion s layout
-  pub counts : f.counts ≡ c
-  pub octets : take 68 (drop 28 s) ≡ state_octets layout f
-  pub range : HasRange layout f
+  pub read : reads_layout expected_counts.version layout ≡ true
+  pub laid_out : HasLayoutVersion checkpoint layout
+  pub counts : fields.counts ≡ expected_counts
+  pub octets : take 68 (drop 28 checkpoint) ≡ state_octets layout fields
+  pub range : HasRange layout fields
 
-abbrev pub HasRecords : (fields : Fixed) (octets : List ℕ) → Type 0
+abbrev pub HasRecords : (fields : Fixed) (checkpoint : List ℕ) → Type 0
 HasRecords f octets = AreRecords f.records (drop FIXED_SIZE octets)
 
 -- all checks up to the counts pass
-abbrev pub PassesUpToCounts : (counts : Counts) (octets : List ℕ) → Type 0
+abbrev pub PassesUpToCounts : (counts : Counts) (checkpoint : List ℕ) → Type 0
 PassesUpToCounts c octets = HasFixedPart octets × HasMagic octets × HasVersion c.version octets
     × HasCounts c octets
 
 -- the first check that fails is one up to the counts
-abbrev pub FailsUpToCounts : (counts : Counts) (octets : List ℕ) (fault : LoadFault) → Type 0
+abbrev pub FailsUpToCounts : (counts : Counts) (checkpoint : List ℕ) (fault : LoadFault) → Type 0
 FailsUpToCounts c octets faults.Length = HasFixedPart octets → ⊥
 FailsUpToCounts c octets faults.Magic = HasFixedPart octets × (HasMagic octets → ⊥)
 FailsUpToCounts c octets faults.Version =
@@ -60,7 +60,7 @@ FailsUpToCounts c octets faults.OutOfMemory = ⊥
 
 -- the first check after the counts that fails: a field is out of its range, or else the octets
 -- after the fields aren't those of the records
-abbrev pub FailsAfterCounts : (counts : Counts) (octets : List ℕ) (fault : LoadFault) → Type 0
+abbrev pub FailsAfterCounts : (counts : Counts) (checkpoint : List ℕ) (fault : LoadFault) → Type 0
 FailsAfterCounts c octets faults.Magic = ⊥
 FailsAfterCounts c octets faults.Version = ⊥
 FailsAfterCounts c octets faults.Catalogue = ⊥
@@ -70,13 +70,14 @@ FailsAfterCounts c octets faults.State = (f : Fixed) → HasState c f octets →
 FailsAfterCounts c octets faults.OutOfMemory = ⊥
 
 -- the first check that fails
-abbrev pub IsFirstFailure : (counts : Counts) (octets : List ℕ) (why : LoadFault) → Type 0
+abbrev pub IsFirstFailure : (counts : Counts) (checkpoint : List ℕ) (fault : LoadFault) → Type 0
 IsFirstFailure c octets why = FailsUpToCounts c octets why
     ⊎ (PassesUpToCounts c octets × FailsAfterCounts c octets why)
 
 -- All checks pass, with these fields; the records' octets follow.
-pub record PassesAllChecks (c : Counts) (s : List ℕ) (f : Fixed) (records : List ℕ) : Type 0 where
-  pub ours : PassesUpToCounts c s
-  pub state : HasState c f s
-  pub rest : records ≡ drop FIXED_SIZE s
-  pub lengths : AreRecords f.records records
+pub record PassesAllChecks (counts : Counts) (checkpoint : List ℕ) (fields : Fixed)
+    (record_octets : List ℕ) : Type 0 where
+  pub ours : PassesUpToCounts counts checkpoint
+  pub state : HasState counts fields checkpoint
+  pub rest : record_octets ≡ drop FIXED_SIZE checkpoint
+  pub lengths : AreRecords fields.records record_octets

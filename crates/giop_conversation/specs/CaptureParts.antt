@@ -71,15 +71,15 @@ IsWholeLines (OfStream number part) = is_tag_due (part_lines part) ≡ true
 IsWholeLines (FaultLine word at) = Unit {0}
 
 -- what a part has of the lines of the stream of this number
-abbrev pub lines_if_of_stream : (lines : StreamPart → List ℕ) (number : ℕ) (part : CapturePart) →
-    List ℕ
+abbrev pub lines_if_of_stream : (lines_of_part : StreamPart → List ℕ) (stream_number : ℕ)
+    (part : CapturePart) → List ℕ
 lines_if_of_stream lines number (OfStream n part) = if n == number then lines part else []
 lines_if_of_stream lines number (FaultLine word at) = []
 
 -- the lines that giopdump writes of the octets of the stream of this number, without the tag
-abbrev pub giopdump_read_lines_of : (number : ℕ) (parts : List CapturePart) → List ℕ
+abbrev pub giopdump_read_lines_of : (stream_number : ℕ) (parts : List CapturePart) → List ℕ
 giopdump_read_lines_of number parts = flat_map (lines_if_of_stream giopdump_read_lines number) parts
 
 -- all lines that giopdump writes of the stream of this number, without the tag
-abbrev pub giopdump_lines_of : (number : ℕ) (parts : List CapturePart) → List ℕ
+abbrev pub giopdump_lines_of : (stream_number : ℕ) (parts : List CapturePart) → List ℕ
 giopdump_lines_of number parts = flat_map (lines_if_of_stream giopdump_lines number) parts

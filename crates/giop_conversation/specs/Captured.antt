@@ -38,7 +38,8 @@ pub record Setup : Type 0 where
   pub connections : ℕ
   pub first : ℕ
 
-abbrev pub setup : (table : Table) (messages calls connections first : ℕ) → Setup
+abbrev pub setup : (table : Table)
+    (most_open_messages most_calls_of_flow most_connections first_stream_number : ℕ) → Setup
 setup table messages calls connections first = record {
   table = table;
   messages = messages;
@@ -66,7 +67,7 @@ abbrev pub half : (side : Side) (connection : Connection) → Half
 half Even c = c.even
 half Odd c = c.odd
 
-abbrev pub with_half : (side : Side) (connection : Connection) (new : Half) → Connection
+abbrev pub with_half : (side : Side) (connection : Connection) (new_flow_state : Half) → Connection
 with_half Even c s = record c { even = s }
 with_half Odd c s = record c { odd = s }
 
@@ -75,8 +76,8 @@ abbrev pub rules_in : (setup : Setup) (answers : Answers) → Rules
 rules_in S a = rules_by S.table a S.messages
 
 -- the calls of the connection, when the stream of a flow is read in this packet
-abbrev pub calls_in : (setup : Setup) (read : Side) (arrival : Arrival) (connection : Connection) →
-    ExchangeView
+abbrev pub calls_in : (setup : Setup) (read_side : Side) (arrival : Arrival)
+    (connection : Connection) → ExchangeView
 calls_in S side arrival c = record {
   table = S.table;
   own = (half side c).calls;
@@ -97,7 +98,7 @@ flow_opened side flow c =
     })
 
 -- after a stream of this number has begun in a flow
-abbrev pub stream_begun : (side : Side) (stream : ℕ) (c : Connection) → Connection
+abbrev pub stream_begun : (side : Side) (stream_number : ℕ) (connection : Connection) → Connection
 stream_begun side stream c =
     with_half side c (record (half side c) { stream = stream; is_live = true; octets = [] })
 
@@ -110,21 +111,21 @@ abbrev pub live_stream : (flow_state : Half) → Option ℕ
 live_stream s = if s.is_live then Some s.stream else None
 
 -- what the line of a stream says that begins in a flow at this time
-abbrev pub opening : (side : Side) (time : Option ℕ) (start : Start) (c : Connection) → Opening
+abbrev pub opening : (side : Side) (begin_time : Option ℕ) (start : Start)
+    (connection : Connection) → Opening
 opening side time start c =
     record { time = time; partner = live_stream (half (other side) c); start = start }
 
 -- the calls of the connection after octets that are delivered in this packet, if the ids of the
 -- stream's messages answer these operations
-abbrev pub calls_after_octets : (S : Setup) (a : Answers) (side : Side) (octets : List ℕ)
-    (arrival : Arrival) (c : Connection) → ExchangeView
+abbrev pub calls_after_octets : (S : Setup) (answers : Answers) (read_side : Side)
+    (delivered_octets : List ℕ) (arrival : Arrival) (connection_before : Connection) → ExchangeView
 calls_after_octets S a side octets arrival c =
     after_octets (rules_in S a) (calls_in S side arrival c) (half side c).octets octets
 
 -- the connection after octets that are delivered in this packet, by these answers
-abbrev pub octets_delivered : (S : Setup) (a : Answers) (side : Side) (octets : List ℕ)
-    (arrival : Arrival)
-    (c : Connection) → Connection
+abbrev pub octets_delivered : (S : Setup) (answers : Answers) (read_side : Side)
+    (delivered_octets : List ℕ) (arrival : Arrival) (connection_before : Connection) → Connection
 octets_delivered S a side octets arrival c =
     let behind = calls_after_octets S a side octets arrival c in
     with_half (other side)
@@ -136,20 +137,21 @@ octets_delivered S a side octets arrival c =
     (record (half (other side) c) { calls = behind.opposite })
 
 -- the lines of octets that are delivered in this packet, by these answers, without the tag
-abbrev pub lines_of_delivered : (S : Setup) (a : Answers) (side : Side) (octets : List ℕ)
-    (arrival : Arrival) (c : Connection) → List ℕ
+abbrev pub lines_of_delivered : (S : Setup) (answers : Answers) (read_side : Side)
+    (delivered_octets : List ℕ) (arrival : Arrival) (connection_before : Connection) → List ℕ
 lines_of_delivered S a side octets arrival c =
     stamped (rules_in S a) (calls_in S side arrival c) (half side c).octets octets
 
 -- These answers are those of the calls. They agree with the stream's answers for what was delivered
 -- before. And if the header of a Reply ends in the octets, the Reply has results of the operation
 -- of the call that it answers.
-pub record AnswersAreOfCalls (S : Setup) (answers : Answers) (side : Side) (octets : List ℕ)
-    (arrival : Arrival) (connection : Connection) : Type 0 where
-  pub before : AnswersAgree S.table S.messages (half side connection).octets
-      (half side connection).answers answers
-  pub now : AgreesAtEnds answer_of notified S.table (calls_in S side arrival connection) answers
-      (header_ends_from (rules_in S answers) (half side connection).octets octets)
+pub record AnswersAreOfCalls (S : Setup) (answers : Answers) (read_side : Side)
+    (delivered_octets : List ℕ) (arrival : Arrival) (connection : Connection) : Type 0 where
+  pub before : AnswersAgree S.table S.messages (half read_side connection).octets
+      (half read_side connection).answers answers
+  pub now : AgreesAtEnds answer_of notified S.table (calls_in S read_side arrival connection)
+      answers
+      (header_ends_from (rules_in S answers) (half read_side connection).octets delivered_octets)
 
 -- the lines with which the stream of a flow closes: why it closes, and its closing
 abbrev pub closed_lines : (setup : Setup) (side : Side) (cause : CloseCause)
@@ -183,7 +185,7 @@ abbrev pub new_connection : Setup → Connection
 new_connection S = record { even = new_half S; odd = new_half S }
 
 -- the dump before a capture is read, when this text was written before
-abbrev pub start : (S : Setup) (written : List ℕ) → Dump
+abbrev pub start : (S : Setup) (text_before : List ℕ) → Dump
 start S written = record {
   connections = replicate S.connections (new_connection S);
   streams = 0;
@@ -200,22 +202,24 @@ abbrev pub saturating_sum : (count more : ℕ) → ℕ
 saturating_sum a b = min (a + b) (2 ^ 64 - 1)
 
 -- the number of the next stream, when this number of streams have begun before it
-abbrev pub next_stream_number : (S : Setup) (begun : ℕ) → ℕ
+abbrev pub next_stream_number : (S : Setup) (streams_begun : ℕ) → ℕ
 next_stream_number S begun = saturating_sum S.first begun
 
 -- the connection of a flow, if the flow has one
-abbrev pub connection_of : (d : Dump) (id : ℕ) → Option Connection
+abbrev pub connection_of : (dump : Dump) (flow_id : ℕ) → Option Connection
 connection_of d id = slice_get d.connections (id / 2)
 
-abbrev pub with_connection : (d : Dump) (id : ℕ) (c : Connection) → Dump
+abbrev pub with_connection : (dump : Dump) (flow_id : ℕ) (new_connection_of_flow : Connection) →
+    Dump
 with_connection d id c = record d { connections = set d.connections (id / 2) c }
 
-abbrev pub dump_after_open : (d : Dump) (id : ℕ) (flow : Flow) (c : Option Connection) → Dump
+abbrev pub dump_after_open : (dump_before : Dump) (flow_id : ℕ) (flow : Flow)
+    (connection : Option Connection) → Dump
 dump_after_open d id flow None = d
 dump_after_open d id flow (Some c) = with_connection d id (flow_opened (side_of id) flow c)
 
-abbrev pub dump_after_begin : (S : Setup) (d : Dump) (id : ℕ) (start : Start)
-    (c : Option Connection) → Dump
+abbrev pub dump_after_begin : (S : Setup) (dump_before : Dump) (flow_id : ℕ) (start : Start)
+    (connection : Option Connection) → Dump
 dump_after_begin S d id start None = record d { streams = saturating_next d.streams }
 dump_after_begin S d id start (Some c) =
     record (with_connection d id (stream_begun (side_of id) (next_stream_number S d.streams) c)) {
@@ -224,8 +228,8 @@ dump_after_begin S d id start (Some c) =
           (begin_lines (half (side_of id) c).flow (opening (side_of id) d.arrival.time start c));
     }
 
-abbrev pub dump_after_octets : (S : Setup) (a : Answers) (d : Dump) (id : ℕ) (octets : List ℕ)
-    (c : Option Connection) → Dump
+abbrev pub dump_after_octets : (S : Setup) (answers : Answers) (dump_before : Dump) (flow_id : ℕ)
+    (delivered_octets : List ℕ) (connection : Option Connection) → Dump
 dump_after_octets S a d id octets None = d
 dump_after_octets S a d id octets (Some c) =
     record (with_connection d id (octets_delivered S a (side_of id) octets d.arrival c)) {
@@ -243,8 +247,8 @@ cuts_stream Syn = false
 cuts_stream Fault = false
 cuts_stream End = false
 
-abbrev pub dump_after_close : (S : Setup) (d : Dump) (id : ℕ) (cause : CloseCause)
-    (c : Option Connection) → Dump
+abbrev pub dump_after_close : (S : Setup) (dump_before : Dump) (flow_id : ℕ) (cause : CloseCause)
+    (connection : Option Connection) → Dump
 dump_after_close S d id cause None = d
 dump_after_close S d id cause (Some c) =
     let s = half (side_of id) c in
@@ -258,8 +262,8 @@ dump_after_close S d id cause (Some c) =
 
 -- the dump after an event, if the ids of the messages of the stream that is read answer these
 -- operations
-abbrev pub dump_after_event : (setup : Setup) (answers : Answers) (before : Dump) (event : Event) →
-    Dump
+abbrev pub dump_after_event : (setup : Setup) (answers : Answers) (dump_before : Dump)
+    (event : Event) → Dump
 dump_after_event S a d (Opens id flow) = dump_after_open d id flow (connection_of d id)
 dump_after_event S a d (Begins id start) = dump_after_begin S d id start (connection_of d id)
 dump_after_event S a d (Delivers id octets) = dump_after_octets S a d id octets (connection_of d id)
@@ -270,8 +274,8 @@ dump_after_event S a d (OfCapture (HasFault word at)) =
     record d { is_cut = true; text = d.text ++ capture_fault_line word at }
 
 -- if the event delivers octets, these answers are those of the calls
-abbrev pub AnswersFitEvent : (setup : Setup) (answers : Answers) (before : Dump) (event : Event) →
-    Type 0
+abbrev pub AnswersFitEvent : (setup : Setup) (answers : Answers) (dump_before : Dump)
+    (event : Event) → Type 0
 AnswersFitEvent S a d (Delivers id octets) =
     IfSome (connection_of d id) (λ c. AnswersAreOfCalls S a (side_of id) octets d.arrival c)
 AnswersFitEvent S a d (Opens id flow) = Unit {0}
@@ -280,10 +284,10 @@ AnswersFitEvent S a d (Closes id cause) = Unit {0}
 AnswersFitEvent S a d (OfCapture event) = Unit {0}
 
 -- The event leads from one dump to the next, by some answers.
-pub record Step (S : Setup) (d : Dump) (e : Event) (behind : Dump) : Type 0 where
+pub record Step (S : Setup) (dump_before : Dump) (event : Event) (dump_after : Dump) : Type 0 where
   pub answers : Answers
-  pub answered : AnswersFitEvent S answers d e
-  pub is : behind ≡ dump_after_event S answers d e
+  pub answered : AnswersFitEvent S answers dump_before event
+  pub is : dump_after ≡ dump_after_event S answers dump_before event
 
 -- a connection, without the answers of its streams
 abbrev pub unanswered : Connection → Connection
@@ -296,12 +300,13 @@ abbrev pub without_answers : Dump → Dump
 without_answers d = record d { connections = map unanswered d.connections }
 
 -- The events lead from one dump to another.
-abbrev pub Leads : (S : Setup) (d : Dump) (events : List Event) (behind : Dump) → Type 0
+abbrev pub Leads : (S : Setup) (dump_before : Dump) (events : List Event) (dump_after : Dump) →
+    Type 0
 Leads S d [] behind = behind ≡ d
 Leads S d (e ∷ es) behind = (between : Dump) × Step S d e between × Leads S between es behind
 
 -- the sums of a capture that has this number of packets and octets
-abbrev pub totals_of : (d : Dump) (packets octets : ℕ) → CaptureTotals
+abbrev pub totals_of : (dump : Dump) (packet_count capture_octet_count : ℕ) → CaptureTotals
 totals_of d packets octets = record {
   streams = d.streams;
   messages = d.messages;
@@ -312,5 +317,5 @@ totals_of d packets octets = record {
 }
 
 -- the text of a capture that has this number of packets and octets, with its last line
-abbrev pub finished_text : (d : Dump) (packets octets : ℕ) → List ℕ
+abbrev pub finished_text : (dump : Dump) (packet_count capture_octet_count : ℕ) → List ℕ
 finished_text d packets octets = d.text ++ capture_total_line (totals_of d packets octets)

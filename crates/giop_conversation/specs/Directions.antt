@@ -14,7 +14,7 @@ pub record DirectionView : Type 0 where
   pub flow : Option Flow  -- who sends to whom
 
 -- the number of the octet at which a stream has a stream fault, from 1, if it has one
-abbrev pub fault_place : (found : Option (ℕ × StreamFault)) → Option ℕ
+abbrev pub fault_place : (octet_number_and_fault : Option (ℕ × StreamFault)) → Option ℕ
 fault_place None = None
 fault_place (Some found) = Some found.0
 

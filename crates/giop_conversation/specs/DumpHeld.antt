@@ -25,9 +25,10 @@ pub record HoldsHalf (S : Setup) (direction : DirectionView) (flow_state : Half)
   pub flow : direction.flow ≡ flow_state.flow
 
 -- The exchange has the calls of a connection. Those of this flow are its own.
-pub record HasCalls (side : Side) (calls : ExchangeView) (c : Connection) : Type 0 where
-  pub own : calls.own ≡ (half side c).calls
-  pub opposite : calls.opposite ≡ (half (other side) c).calls
+pub record HasCalls (own_side : Side) (exchange : ExchangeView) (connection : Connection)
+    : Type 0 where
+  pub own : exchange.own ≡ (half own_side connection).calls
+  pub opposite : exchange.opposite ≡ (half (other own_side) connection).calls
 
 -- a conversation holds a connection: both flows, and the calls
 pub record HoldsConnection (S : Setup) (conversation : Conversation)
@@ -40,18 +41,21 @@ pub record HoldsConnection (S : Setup) (conversation : Conversation)
 -- By these, the conversation holds the connection after the octets, and the text below ends in
 -- their lines, each with the tag of the stream. If a put failed, the text below ends in a front of
 -- those lines.
-pub record HasReadFlow {A E : Type 0} (S : Setup) (c : Connection) (side : Side) (octets : List ℕ)
-    (arrival : Arrival) (w : List ℕ) (result : Result A E) (r : Conversation) (out : Tagging) :
-    Type 0
+pub record HasReadFlow {A E : Type 0} (S : Setup) (connection_before : Connection)
+    (read_side : Side) (octets_read : List ℕ) (arrival : Arrival) (text_below_before : List ℕ)
+    (result : Result A E) (conversation_after : Conversation) (out_after : Tagging) : Type 0
   where
     pub answers : Answers
-    pub answered : AnswersAreOfCalls S answers side octets arrival c
+    pub answered : AnswersAreOfCalls S answers read_side octets_read arrival connection_before
     pub reads : MatchResult result
-        (λ _. HoldsConnection S r (octets_delivered S answers side octets arrival c)
-        × IsReady out (w ++ with_tags (stream_tag (half side c).stream)
-        (lines_of_delivered S answers side octets arrival c)))
-        (λ _. WroteTaggedFront out w (stream_tag (half side c).stream)
-        (lines_of_delivered S answers side octets arrival c))
+        (λ _. HoldsConnection S conversation_after
+        (octets_delivered S answers read_side octets_read arrival connection_before)
+        × IsReady out_after
+        (text_below_before ++ with_tags (stream_tag (half read_side connection_before).stream)
+        (lines_of_delivered S answers read_side octets_read arrival connection_before)))
+        (λ _. WroteTaggedFront out_after text_below_before
+        (stream_tag (half read_side connection_before).stream)
+        (lines_of_delivered S answers read_side octets_read arrival connection_before))
 
 -- the conversations hold the connections, each the one at its place in the list
 abbrev pub AreHeld : (S : Setup) (conversations : List Conversation)
@@ -63,35 +67,34 @@ AreHeld S (r ∷ rs) (c ∷ cs) = HoldsConnection S r c × AreHeld S rs cs
 
 -- A dump is held: by the connections, by the text that they wrote through an out with tags, by the
 -- packet that is read, the number of the first stream, and the sums over the streams.
-pub record HoldsDump (S : Setup) (slots : List Conversation) (out : Tagging) (arrival : Arrival)
-    (first : ℕ) (totals : CaptureTotals) (cut : Bool) (d : Dump) : Type 0 where
-  pub connections : AreHeld S slots d.connections
-  pub ready : IsReady out d.text
-  pub arrival_is : arrival ≡ d.arrival
-  pub first_is : first ≡ S.first
-  pub streams_are : totals.streams ≡ d.streams
-  pub messages_are : totals.messages ≡ d.messages
-  pub faults_are : totals.faults ≡ d.faults
-  pub others_are : totals.others ≡ d.others
-  pub cut_is : cut ≡ d.is_cut
+pub record HoldsDump (S : Setup) (conversations : List Conversation) (out : Tagging)
+    (arrival : Arrival) (first_stream_number : ℕ) (totals : CaptureTotals) (is_cut : Bool)
+    (dump : Dump) : Type 0 where
+  pub connections : AreHeld S conversations dump.connections
+  pub ready : IsReady out dump.text
+  pub arrival_is : arrival ≡ dump.arrival
+  pub first_is : first_stream_number ≡ S.first
+  pub streams_are : totals.streams ≡ dump.streams
+  pub messages_are : totals.messages ≡ dump.messages
+  pub faults_are : totals.faults ≡ dump.faults
+  pub others_are : totals.others ≡ dump.others
+  pub cut_is : is_cut ≡ dump.is_cut
 
 -- The events lead from the start, when this was written below, to a dump that is held. So all of
 -- its text was written, and nothing else.
-pub record HasWritten (S : Setup) (written : List ℕ) (events : List Event) (slots : List
-    Conversation)
-    (out : Tagging)
-    (arrival : Arrival) (first : ℕ) (totals : CaptureTotals) (cut : Bool) : Type 0 where
+pub record HasWritten (S : Setup) (text_before : List ℕ) (events : List Event)
+    (conversations : List Conversation) (out : Tagging) (arrival : Arrival)
+    (first_stream_number : ℕ) (totals : CaptureTotals) (is_cut : Bool) : Type 0 where
   pub dump : Dump
-  pub leads : Leads S (start S written) events dump
-  pub holds : HoldsDump S slots out arrival first totals cut dump
+  pub leads : Leads S (start S text_before) events dump
+  pub holds : HoldsDump S conversations out arrival first_stream_number totals is_cut dump
 
 -- A put failed: a front of the text that the events lead to was written, and maybe the beginning of
 -- a tag.
-pub record HasWrittenFront (S : Setup) (written : List ℕ) (events : List Event) (out : Tagging) :
-    Type
-    0 where
+pub record HasWrittenFront (S : Setup) (text_before : List ℕ) (events : List Event) (out : Tagging)
+    : Type 0 where
   pub dump : Dump
-  pub leads : Leads S (start S written) events dump
+  pub leads : Leads S (start S text_before) events dump
   pub before : List ℕ
   pub tag : List ℕ
   pub lines : List ℕ
@@ -100,22 +103,21 @@ pub record HasWrittenFront (S : Setup) (written : List ℕ) (events : List Event
 
 -- The text of the events was written, and then the last line of the capture. `is_faulted` tells
 -- whether the capture was cut or a fault was counted.
-pub record HasFinished (S : Setup) (written : List ℕ) (events : List Event) (packets octets : ℕ)
-    (out : Tagging)
-    (is_faulted : Bool) : Type 0 where
+pub record HasFinished (S : Setup) (text_before : List ℕ) (events : List Event)
+    (packet_count capture_octet_count : ℕ) (out : Tagging) (is_faulted : Bool) : Type 0 where
   pub dump : Dump
-  pub leads : Leads S (start S written) events dump
-  pub ready : IsReady out (finished_text dump packets octets)
+  pub leads : Leads S (start S text_before) events dump
+  pub ready : IsReady out (finished_text dump packet_count capture_octet_count)
   pub faulted : is_faulted ≡ (dump.is_cut || nat_lt 0 dump.faults)
 
 -- A put failed: a front of the text of the events and of the last line was written.
-pub record HasFinishedFront (S : Setup) (written : List ℕ) (events : List Event)
-    (packets octets : ℕ)
+pub record HasFinishedFront (S : Setup) (text_before : List ℕ) (events : List Event)
+    (packet_count capture_octet_count : ℕ)
     (out : Tagging) : Type 0 where
   pub dump : Dump
-  pub leads : Leads S (start S written) events dump
+  pub leads : Leads S (start S text_before) events dump
   pub before : List ℕ
   pub tag : List ℕ
   pub lines : List ℕ
-  pub text : finished_text dump packets octets ≡ before ++ with_tags tag lines
+  pub text : finished_text dump packet_count capture_octet_count ≡ before ++ with_tags tag lines
   pub front : WroteTaggedFront out before tag lines

@@ -8,7 +8,7 @@ use Rattle.giop_conversation.specs.DumpHeld.{HasWritten}
 
 -- After what was written below before, the text below has the text of these events, and nothing
 -- else.
-abbrev pub IsWritten : {O : Type 0} (S : Setup) (written : List ℕ) (events : List Event)
-    (c : Conversations O) → Type 0
+abbrev pub IsWritten : {O : Type 0} (S : Setup) (text_before : List ℕ) (events : List Event)
+    (conversations : Conversations O) → Type 0
 IsWritten S written events c =
     HasWritten S written events c.slots.items c.out c.arrival c.first c.totals c.cut

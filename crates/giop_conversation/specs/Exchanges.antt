@@ -43,11 +43,11 @@ abbrev pub with_entries : (calls : Entries Call) (entries : List (Entry Call)) �
 with_entries calls es = record calls { entries = es }
 
 -- the outstanding call of an id, if there is one
-abbrev pub outstanding_call : (calls : Entries Call) (id : ℕ) → Option Call
+abbrev pub outstanding_call : (calls : Entries Call) (request_id : ℕ) → Option Call
 outstanding_call calls id = option_map (λ e. e.value) (find (λ e. e.key == id) calls.entries)
 
 -- the operation of a number, if the table has it
-abbrev pub operation_numbered : (C : Table) (number : ℕ) → Option OpId
+abbrev pub operation_numbered : (C : Table) (operation_number : ℕ) → Option OpId
 operation_numbered C number =
     if nat_lt number (length C.operations) then Some (op_id number) else None
 
@@ -59,12 +59,12 @@ answer_of s id =
 
 -- the name by which a call is kept, if it is kept: a reply is expected, and the name has at most
 -- 128 octets, because a line shows no longer name
-abbrev pub kept_name : (name : Option (List ℕ)) (expects : Bool) → Option (List ℕ)
+abbrev pub kept_name : (operation_name : Option (List ℕ)) (expects_reply : Bool) → Option (List ℕ)
 kept_name None expects = None
 kept_name (Some name) expects = if expects && nat_le (length name) 128 then Some name else None
 
-abbrev pub new_call : (s : ExchangeView) (number : ℕ) (name : List ℕ) (operation : Option OpId) →
-    Call
+abbrev pub new_call : (exchange : ExchangeView) (request_message_number : ℕ)
+    (operation_name : List ℕ) (operation : Option OpId) → Call
 new_call s number name operation = record {
   name = record { items = name };
   operation = option_map (λ o. o.0) operation;
@@ -74,7 +74,8 @@ new_call s number name operation = record {
 }
 
 -- the calls of the stream after a Request of this number and id; an older call of the same id goes
-abbrev pub own_after_request : (s : ExchangeView) (number id : ℕ) (name : Option (List ℕ))
+abbrev pub own_after_request : (exchange_before : ExchangeView)
+    (request_message_number request_id : ℕ) (name_if_kept : Option (List ℕ))
     (operation : Option OpId) → Entries Call
 own_after_request s number id None operation = with_entries s.own (without id s.own.entries)
 own_after_request s number id (Some name) operation =
@@ -83,7 +84,7 @@ own_after_request s number id (Some name) operation =
 
 -- the exception that is kept of a Reply, if its name has at most 128 octets, because a line shows
 -- no longer name
-abbrev pub kept_exception : (number : ℕ) (name : List ℕ) → Option Raising
+abbrev pub kept_exception : (reply_message_number : ℕ) (exception_name : List ℕ) → Option Raising
 kept_exception number name =
     if nat_le (length name) 128 then Some (record { message = number; name = name }) else None
 
@@ -93,7 +94,7 @@ is_reply_line_due s = is_some s.answered || is_some s.raised
 
 -- the calls after an event: the end of a Request's header; the end of a Reply's header, which takes
 -- away the call that it answers; or the name of an exception that a Reply raises
-abbrev pub notified : (before : ExchangeView) (event : CallEvent) → ExchangeView
+abbrev pub notified : (exchange_before : ExchangeView) (event : CallEvent) → ExchangeView
 notified s (Requested number id name operation expects) =
     record s { own = own_after_request s number id (kept_name name expects) operation }
 notified s (Replied number id) = record s {

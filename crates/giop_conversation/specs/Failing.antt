@@ -5,7 +5,8 @@ use Rattle.giop_print.specs.Output.{saturating_next}
 use Rattle.giop_conversation.specs.TaggedState.{Tagging}
 
 -- two counts of failures: if the call fails, the second is one more, else they are the same
-abbrev pub CountsFailure : {A E : Type 0} (result : Result A E) (before after : ℕ) → Type 0
+abbrev pub CountsFailure : {A E : Type 0} (result : Result A E)
+    (failures_before failures_after : ℕ) → Type 0
 CountsFailure result before after = MatchResult result (λ _. after ≡ before)
     (λ _. after ≡ saturating_next before)
 
@@ -21,7 +22,7 @@ FailsIfPutFailed result after =
 -- The out with tags fails if the out below does, or if it refuses: it can't count these octets and
 -- a whole tag in addition to the octets since the tag was set.
 abbrev pub FailsBelow : {A E : Type 0} (result : Result A E) (before after : Tagging)
-    (octets : List ℕ) → Type 0
+    (octets_to_put : List ℕ) → Type 0
 FailsBelow result before after octets =
     MatchResult result (λ _. after.below ≡ before.below)
     (λ _. (after.below ≡ saturating_next before.below)

@@ -13,30 +13,31 @@ use Rattle.giop_conversation.specs.declared.conversation.Conversation.{Conversat
 -- ---- the streams
 
 -- the octets of a flow's last stream after one more event, of this flow or of another
-unfoldable pub octets_after_event : (flow : ℕ) (stream : List ℕ) (event : Event) → List ℕ
+unfoldable pub octets_after_event : (flow_id : ℕ) (stream_before : List ℕ) (event : Event) → List ℕ
 octets_after_event flow stream (Begins id start) = if id == flow then [] else stream
 octets_after_event flow stream (Delivers id octets) = if id == flow then stream ++ octets
     else stream
 octets_after_event flow stream _ = stream
 
 -- the octets of a flow's last stream after these events, if they were `stream` before
-unfoldable pub octets_after_events : (flow : ℕ) (stream : List ℕ) (events : List Event) → List ℕ
+unfoldable pub octets_after_events : (flow_id : ℕ) (stream_before : List ℕ) (events : List Event) →
+    List ℕ
 octets_after_events flow stream [] = stream
 octets_after_events flow stream (e ∷ es) = octets_after_events flow (octets_after_event flow stream
     e) es
 
 -- the octets that were delivered of a flow's last stream; none if none has begun
-abbrev pub stream_octets_of : (flow : ℕ) (events : List Event) → List ℕ
+abbrev pub stream_octets_of : (flow_id : ℕ) (events : List Event) → List ℕ
 stream_octets_of flow events = octets_after_events flow [] events
 
 -- if an event delivers octets to a stream that has a stream fault after all of these events: the
 -- number of the octet at which it has it, from 1
-abbrev pub fault_at : (events : List Event) (event : Event) → Option ℕ
+abbrev pub fault_at : (all_events : List Event) (event : Event) → Option ℕ
 fault_at events (Delivers id octets) = fault_place (cut (stream_octets_of id events)).stop
 fault_at events _ = None
 
 -- the same number for the last event of a list
-unfoldable pub last_fault_at : (before events : List Event) → Option ℕ
+unfoldable pub last_fault_at : (all_events events_left : List Event) → Option ℕ
 last_fault_at before [] = None
 last_fault_at before (e ∷ []) = fault_at before e
 last_fault_at before (e ∷ e' ∷ es) = last_fault_at before (e' ∷ es)
@@ -48,7 +49,7 @@ reader_faulted events = last_fault_at events events
 
 -- how many octets are missing until the end of the message that a flow's last stream is in, by all
 -- that has happened, if the message's header is complete; 0 if the stream is in none
-abbrev pub reader_lacking : (events : List Event) (flow : ℕ) → Option ℕ
+abbrev pub reader_lacking : (events : List Event) (flow_id : ℕ) → Option ℕ
 reader_lacking events flow = lacking (cut (stream_octets_of flow events))
 
 -- the readers of the streams
@@ -57,7 +58,7 @@ stream_reader = record { faulted = reader_faulted; lacking = reader_lacking }
 
 -- ---- the connections
 
-abbrev pub side_of : (flow : ℕ) → Side
+abbrev pub side_of : (flow_id : ℕ) → Side
 side_of flow = if flow % 2 == 0 then Even else Odd
 
 abbrev pub other : Side → Side
@@ -70,11 +71,11 @@ direction Even c = c.even
 direction Odd c = c.odd
 
 -- the direction of a flow, if its connection has a slot
-abbrev pub direction_of : (slots : List Conversation) (flow : ℕ) → Option DirectionView
+abbrev pub direction_of : (conversations : List Conversation) (flow_id : ℕ) → Option DirectionView
 direction_of slots flow = option_map (direction (side_of flow)) (slice_get slots (flow / 2))
 
 -- The direction of each flow that has a slot has read the flow's last stream.
-abbrev pub HaveFollowed : (slots : List Conversation) (events : List Event) → Type 0
+abbrev pub HaveFollowed : (conversations : List Conversation) (events : List Event) → Type 0
 HaveFollowed slots events =
     (flow : ℕ) → IfSome (direction_of slots flow) (λ d. HasRead d.engine (stream_octets_of flow
     events))

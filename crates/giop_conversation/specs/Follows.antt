@@ -5,5 +5,5 @@ use Rattle.giop_conversation.specs.declared.conversations.Conversations.{Convers
 use Rattle.giop_conversation.specs.Followed.{HaveFollowed}
 
 -- The direction of each flow that has a slot has read the flow's last stream.
-abbrev pub Follows : {O : Type 0} (c : Conversations O) (events : List Event) → Type 0
+abbrev pub Follows : {O : Type 0} (conversations : Conversations O) (events : List Event) → Type 0
 Follows c events = HaveFollowed c.slots.items events

@@ -13,12 +13,12 @@ use Rattle.giop_conversation.specs.declared.lines.Opening.{Opening}
 use Rattle.giop_conversation.specs.Times.{time_text, span_text}
 
 -- the number of the stream of the opposite flow that lives when a stream begins, if one does
-abbrev pub partner_text : (stream : Option ℕ) → List ℕ
+abbrev pub partner_text : (opposite_live_stream : Option ℕ) → List ℕ
 partner_text None = []
 partner_text (Some stream) = codes " with s" ++ decimal stream
 
 -- the number of octets before a stream that are in no stream, if there are any
-abbrev pub passed_text : (passed : ℕ) → List ℕ
+abbrev pub passed_text : (octets_in_no_stream : ℕ) → List ℕ
 passed_text passed = if nat_lt 0 passed then codes " behind " ++ decimal passed else []
 
 -- ` found`, if the place of the stream was looked for
@@ -33,20 +33,21 @@ stream_line flow opening =
     ∷ passed_text opening.start.passed ∷ found_text opening.start.is_found ∷ codes "\n" ∷ [])
 
 -- the line that says when the header of a message was complete, and in which packet of the capture
-unfoldable pub time_line : (message : ℕ) (arrival : Arrival) → List ℕ
+unfoldable pub time_line : (message_number : ℕ) (arrival : Arrival) → List ℕ
 time_line message arrival =
     joined (codes "m" ∷ decimal message ∷ codes " time " ∷ time_text arrival.time
     ∷ codes " packet " ∷ decimal arrival.packet ∷ codes "\n" ∷ [])
 
 -- the line of the call that a Reply answers, and of how long after the call it came
-unfoldable pub answers_line : (message : ℕ) (call : Call) (time : Option ℕ) → List ℕ
+unfoldable pub answers_line : (reply_message_number : ℕ) (call : Call) (reply_time : Option ℕ) →
+    List ℕ
 answers_line message call time =
     joined (codes "m" ∷ decimal message ∷ codes " answers s" ∷ decimal call.stream ∷ codes " m"
     ∷ decimal call.message
     ∷ codes " " ∷ call.name.items ∷ codes " after " ∷ span_text call.time time ∷ codes "\n" ∷ [])
 
 -- the line of the exception that a Reply raises, by its repository id
-unfoldable pub raises_line : (message : ℕ) (repository : List ℕ) → List ℕ
+unfoldable pub raises_line : (reply_message_number : ℕ) (repository_id : List ℕ) → List ℕ
 raises_line message repository =
     joined (codes "m" ∷ decimal message ∷ codes " raises " ∷ repository ∷ codes "\n" ∷ [])
 
@@ -64,7 +65,7 @@ unfoldable pub closed_line : CloseCause → List ℕ
 closed_line cause = joined (codes "closed " ∷ cause_word cause ∷ codes "\n" ∷ [])
 
 -- the line of the fault of the capture itself, with the number of its octet
-unfoldable pub capture_fault_line : (word : List ℕ) (at : ℕ) → List ℕ
+unfoldable pub capture_fault_line : (fault_word : List ℕ) (octet_number : ℕ) → List ℕ
 capture_fault_line word at =
     joined (codes "capture fault " ∷ word ∷ codes " at " ∷ decimal at ∷ codes "\n" ∷ [])
 

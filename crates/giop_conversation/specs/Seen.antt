@@ -4,8 +4,8 @@ use Rattle.giop_print.specs.Output.{OutLog}
 
 -- There is an out, as the last flush left it, that has all that was put and keeps nothing of it
 -- back.
-pub record IsSeen {O : Type 0} (log : O → OutLog) (kept : O → List ℕ) (put : Option (List ℕ)) :
-    Type 0 where
+pub record IsSeen {O : Type 0} (log : O → OutLog) (kept_back : O → List ℕ)
+    (all_put : Option (List ℕ)) : Type 0 where
   pub out : O
-  pub none : kept out ≡ []
-  pub same : (log out).written ≡ put
+  pub none : kept_back out ≡ []
+  pub same : (log out).written ≡ all_put

@@ -20,12 +20,12 @@ begin_lines None opening = []
 begin_lines (Some flow) opening = stream_line flow opening
 
 -- the line that says when the message of this number began, if there is one
-abbrev pub due_time_line : (message : Option ℕ) (arrival : Arrival) → List ℕ
+abbrev pub due_time_line : (begun_message_number : Option ℕ) (arrival : Arrival) → List ℕ
 due_time_line None arrival = []
 due_time_line (Some message) arrival = time_line message arrival
 
 -- the line that says which call a Reply answers, if it answers one
-abbrev pub due_answers_line : (a : Option Answering) (time : Option ℕ) → List ℕ
+abbrev pub due_answers_line : (answering : Option Answering) (reply_time : Option ℕ) → List ℕ
 due_answers_line None time = []
 due_answers_line (Some a) time = answers_line a.message a.call time
 
@@ -36,7 +36,8 @@ due_raises_line (Some r) = raises_line r.message r.name
 
 -- the calls of the connection after they were told of each header that ends in these octets after
 -- the stream
-abbrev pub after_headers : (R : Rules) (s : ExchangeView) (stream octets : List ℕ) → ExchangeView
+abbrev pub after_headers : (R : Rules) (calls_before : ExchangeView)
+    (stream_before new_octets : List ℕ) → ExchangeView
 after_headers R s stream octets = after_ends notified s.table s (header_ends_from R stream octets)
 
 -- the calls after the lines of a Reply were written
@@ -45,21 +46,24 @@ reply_forgotten s = record s { answered = None; raised = None }
 
 -- the lines that are due after these octets of the stream, which came in the packet that the
 -- exchange has
-unfoldable pub lines_due : (R : Rules) (s : ExchangeView) (stream octets : List ℕ) → List ℕ
+unfoldable pub lines_due : (R : Rules) (exchange : ExchangeView)
+    (stream_before new_octets : List ℕ) → List ℕ
 lines_due R s stream octets =
     due_time_line (begun_in stream octets) s.arrival
     ++ (due_answers_line (after_headers R s stream octets).answered s.arrival.time
     ++ due_raises_line (after_headers R s stream octets).raised)
 
 -- the calls of the connection after these octets, which come after the stream
-unfoldable pub after_octets : (R : Rules) (s : ExchangeView) (stream octets : List ℕ) → ExchangeView
+unfoldable pub after_octets : (R : Rules) (calls_before : ExchangeView)
+    (stream_before new_octets : List ℕ) → ExchangeView
 after_octets R s stream [] = s
 after_octets R s stream (x ∷ xs) = after_octets R (reply_forgotten (after_headers R s stream
     (x ∷ []))) (stream ++ x ∷ []) xs
 
 -- what is written of these octets after the stream: the lines of each octet, and then the lines
 -- that are due after it
-unfoldable pub stamped : (R : Rules) (s : ExchangeView) (stream octets : List ℕ) → List ℕ
+unfoldable pub stamped : (R : Rules) (calls_before : ExchangeView)
+    (stream_before new_octets : List ℕ) → List ℕ
 stamped R s stream [] = []
 stamped R s stream (x ∷ xs) =
     (added R stream (x ∷ []) ++ lines_due R s stream (x ∷ []))

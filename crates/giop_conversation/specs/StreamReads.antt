@@ -14,25 +14,24 @@ use Rattle.giop_conversation.specs.Exchanges.{ExchangeView, answer_of, notified,
 -- These answers agree with the calls of the connection at each header that ends in these octets
 -- after the stream. If it is the header of a Reply, the Reply has results of the operation of the
 -- call that it answers.
-abbrev pub AgreeWith : (e : EngineView) (a : Answers) (s : ExchangeView) (stream octets : List ℕ) →
-    Type 0
+abbrev pub AgreeWith : (engine : EngineView) (answers : Answers) (exchange : ExchangeView)
+    (stream_before new_octets : List ℕ) → Type 0
 AgreeWith e a s stream octets = AgreesOver answer_of notified s e a stream octets
 
 -- no line of the conversation is due after these octets, which come after the stream
-abbrev pub NoLineDueAfter : (e : EngineView) (a : Answers) (s : ExchangeView) (stream octets : List
-    ℕ) →
-    Type 0
+abbrev pub NoLineDueAfter : (engine : EngineView) (answers : Answers) (exchange : ExchangeView)
+    (stream_before new_octets : List ℕ) → Type 0
 NoLineDueAfter e a s stream octets =
     is_due_after is_reply_line_due notified true e.table s (rules_with e a) stream octets ≡ false
 
 -- an engine reads by the same types as one before, and allows the same number of open messages
-pub record HasSameSetup (engine before : EngineView) : Type 0 where
-  pub table : engine.table ≡ before.table
-  pub most : engine.most ≡ before.most
+pub record HasSameSetup (engine engine_before : EngineView) : Type 0 where
+  pub table : engine.table ≡ engine_before.table
+  pub most : engine.most ≡ engine_before.most
 
 -- the calls of the connection, when a stream of this number is read in this packet
-abbrev pub exchange_for_reading : (e : EngineView) (stream : ℕ) (arrival : Arrival)
-    (s : ExchangeView) →
+abbrev pub exchange_for_reading : (engine : EngineView) (stream_number : ℕ) (arrival : Arrival)
+    (exchange_before : ExchangeView) →
     ExchangeView
 exchange_for_reading e stream arrival s =
     record s {
@@ -47,25 +46,25 @@ exchange_for_reading e stream arrival s =
 
 -- The engine holds the stream p, these lines were written through the out with tags, and the calls
 -- are these.
-pub record ReadAndWroteThrough (engine : EngineView) (answers : Answers) (stream : List ℕ)
+pub record ReadAndWroteThrough (engine : EngineView) (answers : Answers) (held_stream : List ℕ)
     (before after : Tagging)
-    (lines : List ℕ) (calls expected : ExchangeView) : Type 0 where
-  pub holds : HoldsBy engine answers stream
-  pub wrote : Wrote (tagging_log before) (tagging_log after) lines
-  pub told : calls ≡ expected
+    (written_lines : List ℕ) (exchange expected_exchange : ExchangeView) : Type 0 where
+  pub holds : HoldsBy engine answers held_stream
+  pub wrote : Wrote (tagging_log before) (tagging_log after) written_lines
+  pub told : exchange ≡ expected_exchange
 
 -- The engine holds the stream p, this was written to the out below, and the calls are these.
-pub record ReadAndWroteBelow (engine : EngineView) (answers : Answers) (stream : List ℕ)
-    (after : Tagging)
-    (below : List ℕ) (calls expected : ExchangeView) : Type 0 where
-  pub holds : HoldsBy engine answers stream
-  pub ready : IsReady after below
-  pub told : calls ≡ expected
+pub record ReadAndWroteBelow (engine : EngineView) (answers : Answers) (held_stream : List ℕ)
+    (out_after : Tagging)
+    (text_below : List ℕ) (exchange expected_exchange : ExchangeView) : Type 0 where
+  pub holds : HoldsBy engine answers held_stream
+  pub ready : IsReady out_after text_below
+  pub told : exchange ≡ expected_exchange
 
 -- The text below goes on with these lines, each with the tag in front. If a put failed, it goes on
 -- with a front of them, and maybe with the beginning of a tag.
-abbrev pub WritesTagged : {A E : Type 0} (result : Result A E) (after : Tagging)
-    (text tag lines : List ℕ) → Type 0
+abbrev pub WritesTagged : {A E : Type 0} (result : Result A E) (out_after : Tagging)
+    (text_below_before tag lines : List ℕ) → Type 0
 WritesTagged result after text tag lines =
     MatchResult result (λ _. IsReady after (text ++ with_tags tag lines))
     (λ _. WroteTaggedFront after text tag lines)

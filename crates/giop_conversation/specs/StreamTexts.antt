@@ -23,7 +23,8 @@ abbrev pub new_stream : StreamHistory
 new_stream = record { octets = []; answers = λ number id. None; is_closed = false; goes_on = false }
 
 -- a stream after octets were delivered, which were read by these answers
-abbrev pub with_octets : (a : Answers) (octets : List ℕ) (s : StreamHistory) → StreamHistory
+abbrev pub with_octets : (answers : Answers) (delivered_octets : List ℕ)
+    (stream_history : StreamHistory) → StreamHistory
 with_octets a octets s =
     record s { octets = s.octets ++ octets; answers = a; goes_on = s.goes_on || s.is_closed }
 
@@ -31,7 +32,7 @@ abbrev pub with_close : StreamHistory → StreamHistory
 with_close s = record s { is_closed = true; goes_on = s.goes_on || s.is_closed }
 
 -- what giopdump writes of a stream: its text, and then its closing if the stream has closed
-abbrev pub giopdump_text : (rules : Rules) (stream : StreamHistory) → List ℕ
+abbrev pub giopdump_text : (rules : Rules) (stream_history : StreamHistory) → List ℕ
 giopdump_text R s = text R s.octets ++ (if s.is_closed then closing R s.octets else [])
 
 -- what has happened in the streams of a capture
@@ -51,7 +52,8 @@ no_history = record {
 
 -- after a stream of this number has begun in the flow of this id; the Bool tells whether the flow's
 -- connection has a slot
-abbrev pub with_begun : (h : History) (id number : ℕ) (has_slot : Bool) → History
+abbrev pub with_begun : (history_before : History) (flow_id stream_number : ℕ) (has_slot : Bool) →
+    History
 with_begun h id number true =
     record h {
       begun = saturating_next h.begun;
@@ -60,11 +62,12 @@ with_begun h id number true =
     }
 with_begun h id number false = record h { begun = saturating_next h.begun }
 
-abbrev pub with_stream : (h : History) (number : ℕ) (s : StreamHistory) → History
+abbrev pub with_stream : (history_before : History) (stream_number : ℕ)
+    (stream_history : StreamHistory) → History
 with_stream h number s = record h { stream = λ n. if number == n then s else h.stream n }
 
 -- after one more event; if it delivers octets, these are read by the answers
-abbrev pub history_after_event : (setup : Setup) (answers : Answers) (before : History)
+abbrev pub history_after_event : (setup : Setup) (answers : Answers) (history_before : History)
     (event : Event) → History
 history_after_event S a h (Opens id flow) = h
 history_after_event S a h (Begins id start) =
@@ -77,8 +80,8 @@ history_after_event S a h (OfCapture event) = h
 
 -- after all events, which lead from one dump to another; the octets of each event are read by its
 -- answers
-abbrev pub history : (S : Setup) → History → (d : Dump) → (events : List Event) → (behind : Dump) →
-    Leads S d events behind → History
+abbrev pub history : (S : Setup) → (history_before : History) → (dump_before : Dump) →
+    (events : List Event) → (dump_after : Dump) → Leads S dump_before events dump_after → History
 history S h d [] behind leads = h
 history S h d (e ∷ es) behind leads =
     history S (history_after_event S leads.1.answers h e) leads.0 es behind leads.2
@@ -86,9 +89,10 @@ history S h d (e ∷ es) behind leads =
 -- The lines of a stream that giopdump writes too are exactly giopdump's. Those of its octets are
 -- its text. And unless the stream goes on after its close, those of its octets and of its end
 -- together are what giopdump writes of it.
-pub record IsDumped (S : Setup) (stream_history : StreamHistory) (reads own : List ℕ) : Type 0 where
-  pub reads_are : reads ≡ text (rules_in S stream_history.answers) stream_history.octets
-  pub own_are : stream_history.goes_on ≡ false → own
+pub record IsDumped (S : Setup) (stream_history : StreamHistory)
+    (lines_of_octets all_giopdump_lines : List ℕ) : Type 0 where
+  pub reads_are : lines_of_octets ≡ text (rules_in S stream_history.answers) stream_history.octets
+  pub own_are : stream_history.goes_on ≡ false → all_giopdump_lines
       ≡ giopdump_text (rules_in S stream_history.answers) stream_history
 
 -- In each flow, octets come and a stream closes only while a stream lives there, as in a flow
@@ -104,15 +108,15 @@ AreWhole events = (flow : ℕ) → (payloads : _) × EventsMayFollow payloads fl
 
 -- The number is one that no two streams have: it is neither 0 nor the greatest, at which numbers
 -- stay.
-abbrev pub IsUnique : (number : ℕ) → Type 0
+abbrev pub IsUnique : (stream_number : ℕ) → Type 0
 IsUnique number = (0 < number) × (number < 2 ^ 64 - 1)
 
 -- The text is what was written before, and then parts, each of whole lines. In them, the lines of
 -- each stream that giopdump writes too are exactly giopdump's.
-pub record ShowsStreams (S : Setup) (written : List ℕ) (h : History) (all : List ℕ) : Type 0 where
+pub record ShowsStreams (S : Setup) (text_before : List ℕ) (histories : History)
+    (whole_text : List ℕ) : Type 0 where
   pub parts : List CapturePart
   pub whole : Each IsWholeLines parts
-  pub shows : all ≡ written ++ parts_text parts
-  pub streams : (number : ℕ) → IsUnique number →
-      IsDumped S (h.stream number) (giopdump_read_lines_of number parts) (giopdump_lines_of number
-      parts)
+  pub shows : whole_text ≡ text_before ++ parts_text parts
+  pub streams : (number : ℕ) → IsUnique number → IsDumped S (histories.stream number)
+      (giopdump_read_lines_of number parts) (giopdump_lines_of number parts)

@@ -22,30 +22,33 @@ pub record Tagging : Type 0 where
   pub failures : ℕ
 
 -- The whole tag is due, it has at least one octet, and it isn't longer than a block of 16.
-pub record IsShortTagDue (due : ℕ) (tag : List ℕ) : Type 0 where
-  pub whole : due ≡ length tag
+pub record IsShortTagDue (tag_octets_due : ℕ) (tag : List ℕ) : Type 0 where
+  pub whole : tag_octets_due ≡ length tag
   pub some : 0 < length tag
   pub short : length tag ≤ 16
 
 -- a list of numbers that identifies the octets before the tag was set, and the tag
-abbrev pub start_identity : (before tag : List ℕ) → List ℕ
+abbrev pub start_identity : (octets_before_tag tag : List ℕ) → List ℕ
 start_identity before tag = length before ∷ length tag ∷ (before ++ tag)
 
 -- the octets that were written since the tag was set
-abbrev pub octets_since_tag : (since : ℕ) (written : List ℕ) → List ℕ
+abbrev pub octets_since_tag : (octet_count_since_tag : ℕ) (written_below : List ℕ) → List ℕ
 octets_since_tag since written = drop (length written - since) written
 
-abbrev pub text_since_tag : (tag : List ℕ) (since : ℕ) (written : List ℕ) → List ℕ
+abbrev pub text_since_tag : (tag : List ℕ) (octet_count_since_tag : ℕ) (written_below : List ℕ) →
+    List ℕ
 text_since_tag tag since written = without_tags (length tag) (octets_since_tag since written)
 
 -- if no put has failed and a tag is due, the whole tag is due
-abbrev pub is_due_tag_whole : (tag : List ℕ) (due failures : ℕ) (text : List ℕ) → Bool
+abbrev pub is_due_tag_whole : (tag : List ℕ) (tag_octets_due failed_puts : ℕ)
+    (text_since_tag_set : List ℕ) → Bool
 is_due_tag_whole tag due failures text = (not (failures == 0) || not (is_tag_due text))
     || due == length tag
 
 -- the octets since the tag was set are a text with tags; if a tag is due at their end, all of it
 -- but `due` octets stands there
-unfoldable pub is_tagged : (tag : List ℕ) (due since failures : ℕ) (written : List ℕ) → Bool
+unfoldable pub is_tagged : (tag : List ℕ) (tag_octets_due octet_count_since_tag failed_puts : ℕ)
+    (written_below : List ℕ) → Bool
 is_tagged tag due since failures written =
     (nat_le since (length written) && nat_le due (length tag))
     && (bytes_eq (octets_since_tag since written) (tagged_until_due tag (text_since_tag tag since
@@ -53,7 +56,8 @@ is_tagged tag due since failures written =
     && ((is_tag_due (text_since_tag tag since written) || due == 0)
     && is_due_tag_whole tag due failures (text_since_tag tag since written)))
 
-unfoldable pub written_through : (tag : List ℕ) (due since failures : ℕ) (written : List ℕ) →
+unfoldable pub written_through : (tag : List ℕ)
+    (tag_octets_due octet_count_since_tag failed_puts : ℕ) (written_below : List ℕ) →
     Option (List ℕ)
 written_through tag due since failures written =
     if is_tagged tag due since failures written
@@ -69,18 +73,20 @@ tagging_log t = record {
 }
 
 -- No put has failed, exactly this was written to the out below, and the next octet begins a line.
-pub record IsReady (t : Tagging) (written : List ℕ) : Type 0 where
-  pub known : t.whole ≡ Some written
+pub record IsReady (tagging : Tagging) (written_below : List ℕ) : Type 0 where
+  pub known : tagging.whole ≡ Some written_below
   pub before : List ℕ
   pub text : List ℕ
-  pub stands : StandsTagged written before t.tag t.since text t.due
+  pub stands : StandsTagged written_below before tagging.tag tagging.since text tagging.due
   pub ended : is_tag_due text ≡ true
-  pub due : t.due ≡ length t.tag
-  pub sound : t.failures ≡ 0
+  pub due : tagging.due ≡ length tagging.tag
+  pub sound : tagging.failures ≡ 0
 
 -- A put failed: the text below is what was written before, then a front of these lines with the
 -- tag, and maybe the beginning of a tag.
-pub record WroteTaggedFront (t : Tagging) (text_before tag lines : List ℕ) : Type 0 where
+pub record WroteTaggedFront (out_after : Tagging) (text_below_before tag lines : List ℕ)
+    : Type 0 where
   pub size : ℕ
   pub due : ℕ
-  pub whole : t.whole ≡ Some (text_before ++ tagged_until_due tag (take size lines) due)
+  pub whole : out_after.whole
+      ≡ Some (text_below_before ++ tagged_until_due tag (take size lines) due)

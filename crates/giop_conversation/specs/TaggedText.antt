@@ -4,7 +4,7 @@ use Rattle.std.specs.Io.KnownBytes.{Appends, Keeps}
 use Rattle.giop_conversation.specs.Tags.{tag_if_first, with_tags}
 
 -- whether the octet after a text is the first of a line
-unfoldable pub next_begins_line : (first : Bool) (text : List ℕ) → Bool
+unfoldable pub next_begins_line : (text_begins_line : Bool) (text : List ℕ) → Bool
 next_begins_line first [] = first
 next_begins_line first (x ∷ xs) = next_begins_line (x == 10) xs
 
@@ -24,23 +24,22 @@ pub record IsOneLine (octets : List ℕ) : Type 0 where
   pub only : (k : ℕ) → k + 1 < length octets → (slice_index octets k == 10) ≡ false
 
 -- the text with tags; if a line begins after it, all octets of that line's tag but `due` follow
-unfoldable pub tagged_until_due : (tag text : List ℕ) (due : ℕ) → List ℕ
+unfoldable pub tagged_until_due : (tag text : List ℕ) (tag_octets_missing : ℕ) → List ℕ
 tagged_until_due tag text due = with_tags tag text ++ take (length tag - due)
     (tag_if_first (is_tag_due text) tag)
 
--- what was written after other octets is a text with tags that may stop inside a tag, and `since`
--- is the number of octets of it
-pub record StandsTagged (written before tag : List ℕ) (since : ℕ) (text : List ℕ)
-    (due : ℕ) : Type 0 where
-  pub whole : written ≡ before ++ tagged_until_due tag text due
-  pub counted : since ≡ length (tagged_until_due tag text due)
-  pub within : due ≤ length tag
-  pub inside : is_tag_due text ≡ false → due ≡ 0
+-- what was written after other octets is a text with tags that may stop inside a tag, and
+-- `tagged_octet_count` is the number of octets of it
+pub record StandsTagged (written_below octets_before tag : List ℕ) (tagged_octet_count : ℕ)
+    (text : List ℕ) (tag_octets_missing : ℕ) : Type 0 where
+  pub whole : written_below ≡ octets_before ++ tagged_until_due tag text tag_octets_missing
+  pub counted : tagged_octet_count ≡ length (tagged_until_due tag text tag_octets_missing)
+  pub within : tag_octets_missing ≤ length tag
+  pub inside : is_tag_due text ≡ false → tag_octets_missing ≡ 0
 
 -- the same for what was written to an out, if that is known
-abbrev pub StandsTaggedIn : (written : Option (List ℕ)) (before tag : List ℕ) (since : ℕ)
-    (text : List ℕ)
-    (due : ℕ) → Type 0
+abbrev pub StandsTaggedIn : (written_below : Option (List ℕ)) (octets_before tag : List ℕ)
+    (tagged_octet_count : ℕ) (text : List ℕ) (tag_octets_missing : ℕ) → Type 0
 StandsTaggedIn None before tag since text due = ⊥
 StandsTaggedIn (Some written) before tag since text due = StandsTagged written before tag since text
     due
@@ -52,31 +51,36 @@ tag_due_after tag octet = if octet == 10 then length tag else 0
 -- ---- what a put did, by what was written before and after it, and by the counts of octets
 
 -- the put took the first n octets, at least one if there are any
-pub record HasPutCounted (before after : Option (List ℕ)) (octets : List ℕ)
-    (since_before since_after taken : ℕ) : Type 0 where
-  pub some : 0 < length octets → 0 < taken
-  pub within : taken ≤ length octets
-  pub written : Appends before after (take taken octets)
-  pub counted : since_after ≡ since_before + taken
+pub record HasPutCounted (written_before written_after : Option (List ℕ)) (octets : List ℕ)
+    (octet_count_before octet_count_after octets_taken : ℕ) : Type 0 where
+  pub some : 0 < length octets → 0 < octets_taken
+  pub within : octets_taken ≤ length octets
+  pub written : Appends written_before written_after (take octets_taken octets)
+  pub counted : octet_count_after ≡ octet_count_before + octets_taken
 
 -- the put failed
-pub record CountedPutFailed (before after : Option (List ℕ))
-    (since_before since_after : ℕ) : Type 0 where
-  pub written : Keeps before after
-  pub counted : since_after ≡ since_before
+pub record CountedPutFailed (written_before written_after : Option (List ℕ))
+    (octet_count_before octet_count_after : ℕ) : Type 0 where
+  pub written : Keeps written_before written_after
+  pub counted : octet_count_after ≡ octet_count_before
 
 -- the put took the first n octets, and wrote the tag before them if it was due
-pub record HasPutTagged (old new : Option (List ℕ)) (tag octets : List ℕ)
-    (since_before since_after due_before due_after taken : ℕ) : Type 0 where
-  pub some : 0 < taken
-  pub within : taken ≤ length octets
-  pub next : due_after ≡ tag_due_after tag (slice_index octets (taken - 1))
-  pub stands : (before text : List ℕ) → StandsTaggedIn old before tag since_before text due_before →
-      StandsTaggedIn new before tag since_after (text ++ take taken octets) due_after
+pub record HasPutTagged (written_before written_after : Option (List ℕ)) (tag octets : List ℕ)
+    (octet_count_before octet_count_after tag_octets_due_before tag_octets_due_after
+    octets_taken : ℕ) : Type 0 where
+  pub some : 0 < octets_taken
+  pub within : octets_taken ≤ length octets
+  pub next : tag_octets_due_after ≡ tag_due_after tag (slice_index octets (octets_taken - 1))
+  pub stands : (before text : List ℕ) →
+      StandsTaggedIn written_before before tag octet_count_before text tag_octets_due_before →
+      StandsTaggedIn written_after before tag octet_count_after (text ++ take octets_taken octets)
+      tag_octets_due_after
 
 -- the put failed, maybe inside the tag that was due
-pub record TaggedPutFailed (old new : Option (List ℕ)) (tag : List ℕ)
-    (since_before since_after due_before due_after : ℕ) : Type 0 where
-  pub within : due_after ≤ length tag
-  pub stands : (before text : List ℕ) → StandsTaggedIn old before tag since_before text due_before →
-      StandsTaggedIn new before tag since_after text due_after
+pub record TaggedPutFailed (written_before written_after : Option (List ℕ)) (tag : List ℕ)
+    (octet_count_before octet_count_after tag_octets_due_before tag_octets_due_after : ℕ)
+    : Type 0 where
+  pub within : tag_octets_due_after ≤ length tag
+  pub stands : (before text : List ℕ) →
+      StandsTaggedIn written_before before tag octet_count_before text tag_octets_due_before →
+      StandsTaggedIn written_after before tag octet_count_after text tag_octets_due_after

@@ -5,7 +5,7 @@ use Rattle.httpdate.specs.Calendar.{days_of_years, days_of_months}
 use Rattle.httpdate.specs.Text.{two_digits, four_digits}
 
 -- the greatest number, at most `most`, at which `f` isn't above a number, if `f` rises
-unfoldable pub greatest_within : (f : ℕ → ℕ) (most number : ℕ) → ℕ
+unfoldable pub greatest_within : (rising_function : ℕ → ℕ) (most_argument value_bound : ℕ) → ℕ
 greatest_within f zero number = zero
 greatest_within f (suc most) number =
     if nat_le (f (suc most)) number then suc most else greatest_within f most number
@@ -49,7 +49,7 @@ time_of_day_text seconds =
     ++ (codes ":" ++ (two_digits (seconds % 3600 / 60) ++ (codes ":" ++ two_digits (seconds % 60))))
 
 -- the last decimal digits of a number, by how many
-unfoldable pub last_digits : (count number : ℕ) → List ℕ
+unfoldable pub last_digits : (digit_count number : ℕ) → List ℕ
 last_digits zero number = []
 last_digits (suc count) number = (48 + number / 10 ^ count % 10) ∷ last_digits count number
 
@@ -71,7 +71,7 @@ instant_text time = date_and_second_text (time / nanoseconds_per_second)
     ++ (last_digits 9 (time % nanoseconds_per_second) ++ codes "Z")
 
 -- the text of a time; if there is no time, or it is after the year 9999, the text is `-`
-unfoldable pub time_text : (time : Option ℕ) → List ℕ
+unfoldable pub time_text : (nanoseconds_since_1970 : Option ℕ) → List ℕ
 time_text None = codes "-"
 time_text (Some time) =
     if nat_lt (time / nanoseconds_per_day) (days_of_years years_to_9999) then instant_text time

@@ -10,8 +10,7 @@ ghost use Rattle.giop_conversation.specs.Seen.{IsSeen};
 ghost use Rattle.giop_conversation.specs.TaggedText.{first_line_size, tag_due_after, IsOneLine, StandsTaggedIn, HasPutCounted, CountedPutFailed, HasPutTagged, TaggedPutFailed};
 
 use crate::tag::{BLOCK, Tag, no_tag};
-use giop_print::{Line, Out, OutFault};
-use giop_run::Flush;
+use giop_print::{Flush, Line, Out, OutFault};
 use memchr::memchr;
 use std::marker::Model;
 use std::simd::prelude::*;

@@ -16,7 +16,7 @@ use Rattle.giop_sig.specs.Trees.{part_number_in, tree, tree_at}
 use Rattle.giop_sig.specs.Types.{Ty, Led, Union, case_count}
 
 -- a type has this part, and this many parts; the cases of a union aren't counted
-abbrev pub HasPart : (T : Ty) (index count : ℕ) → Type 0
+abbrev pub HasPart : (T : Ty) (index part_count_or_0_if_uncounted : ℕ) → Type 0
 HasPart (Union choice scalar select names cases) index count =
     (index < case_count choice) × (count ≡ 0)
 HasPart (Led h F parts) index count = CanFollow h index × (count ≡ 0)
@@ -24,24 +24,27 @@ HasPart T index count = HasParts T count × (index < count)
 
 -- a frame of a type: for one of its parts, or for an encapsulation, some of whose octets were taken
 -- and some are to come
-abbrev pub HasFrame : (order : Option Order) (T : Ty) (index count : ℕ) → Type 0
+abbrev pub HasFrame : (encapsulation_order : Option Order) (T : Ty)
+    (index_or_octets_taken count_of_parts_or_octets : ℕ) → Type 0
 HasFrame None T index count = HasPart T index count
 HasFrame (Some order) T index count = IsEncapsulation T × (0 < index) × (index < count)
 
 -- the same, or a frame of a type whose first part tells what comes after it
-abbrev pub HasFrameAs : (stage : Option Stage) (inside : Option Order) (T : Ty) (index count : ℕ) →
-    Type 0
+abbrev pub HasFrameAs : (telling_stage : Option Stage) (encapsulation_order : Option Order) (T : Ty)
+    (index_or_octets_taken count_of_parts_or_octets : ℕ) → Type 0
 HasFrameAs None inside T index count = HasFrame inside T index count
 HasFrameAs (Some stage) inside T index count = FrameIndexFitsAs (Some stage) inside index count T
 
 -- an innermost part of this type fits into a room, with what is held of it
-abbrev pub LeafFits : (C : Table) (room : ℕ) (leaf : Innermost) (carry piece : List ℕ) → Type 0
+abbrev pub LeafFits : (C : Table) (depth_left : ℕ) (leaf : Innermost)
+    (held_of_number held_of_piece : List ℕ) → Type 0
 LeafFits C room leaf carry piece = (let T = tree_at C room (leaf_type leaf) in
     FitsIn T [] (leaf_by T leaf carry piece) × HoldsOnlyItsOwn leaf carry piece)
 
 -- each frame is for the part that the one before it is at, and the innermost part is the one that
 -- the last frame is at; the first frame is for a type in this room
-abbrev pub FramesChain : (C : Table) (room id : ℕ) (frames : List Frame) (leaf : Innermost) → Type 0
+abbrev pub FramesChain : (C : Table) (depth_left first_type_index : ℕ) (frames : List Frame)
+    (leaf : Innermost) → Type 0
 FramesChain C room id [] leaf = leaf_type leaf ≡ id
 FramesChain C room id (f ∷ frames) leaf =
     (f.of.0 ≡ id) × HasFrameAs f.told f.inside (tree_at C room id) f.index f.count

@@ -19,15 +19,15 @@ string_offset T leaf = None
 -- This many octets are noted of a string whose unfinished piece begins at this offset: all before
 -- it. In a body there may be fewer: a checkpoint of a version that noted nothing of bodies has
 -- none.
-abbrev pub IsNotedCount : (root : Root) (offset count : ℕ) → Type 0
+abbrev pub IsNotedCount : (root : Root) (piece_offset_in_string octets_noted : ℕ) → Type 0
 IsNotedCount roots.Body offset count = count ≤ offset
 IsNotedCount root offset count = count ≡ offset
 
 -- What the buffer can have if the innermost part is in no string, or in one whose unfinished piece
 -- begins at this offset. It may have an object key in a string too, if nothing is noted of the
 -- string yet.
-abbrev pub NameBufferFits : (root : Root) (offset : Option ℕ) (buffer : Buffer) (name : List ℕ) →
-    Type 0
+abbrev pub NameBufferFits : (root : Root) (piece_offset_if_in_string : Option ℕ) (buffer : Buffer)
+    (buffer_octets : List ℕ) → Type 0
 NameBufferFits root None buffers.Begun name = name ≡ []
 NameBufferFits root None buffers.Whole name = Unit {0}
 NameBufferFits root None buffers.TooLong name = ⊥

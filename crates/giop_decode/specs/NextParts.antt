@@ -48,17 +48,18 @@ pub record IsPartAhead (C : Table) (d : Decoder) (part : PartAhead) : Type 0 whe
   pub outer : d.outer.items ≡ frames_above d.outer.items ++ part.frame ∷ []
 
 -- another primitive comes next in a frame
-pub record IsNextPrimitive (C : Table) (frame : Frame) (next : TypeId) : Type 0 where
+pub record IsNextPrimitive (C : Table) (frame : Frame) (next_type : TypeId) : Type 0 where
   pub below : frame.index + 1 < frame.count
-  pub known : next.0 < length C.types
-  pub number : next.0 ≡ part_number C frame.of.0 (frame.index + 1)
+  pub known : next_type.0 < length C.types
+  pub number : next_type.0 ≡ part_number C frame.of.0 (frame.index + 1)
   pub is_part : (room : ℕ) →
-      tree_at C room next.0 ≡ part_of (tree_at C (suc room) frame.of.0) (frame.index + 1)
+      tree_at C room next_type.0 ≡ part_of (tree_at C (suc room) frame.of.0) (frame.index + 1)
   pub prim : Primitive
-  pub is : (room : ℕ) → tree_at C room next.0 ≡ Single (Plain prim)
+  pub is : (room : ℕ) → tree_at C room next_type.0 ≡ Single (Plain prim)
 
 -- the decoder at the part that comes next
-pub record IsAtNextPart (C : Table) (d new : Decoder) (part : PartAhead) (next : TypeId) : Type 0
+pub record IsAtNextPart (C : Table) (d new : Decoder) (part_taken : PartAhead) (next_type : TypeId)
+    : Type 0
   where
     pub order : new.order ≡ d.order
     pub head : new.head ≡ d.head
@@ -67,6 +68,6 @@ pub record IsAtNextPart (C : Table) (d new : Decoder) (part : PartAhead) (next :
     pub notes : new.notes ≡ d.notes
     pub carry : new.carry ≡ d.carry
     pub piece : new.piece ≡ d.piece
-    pub at : new.at ≡ (d.at + part.count) % 8
-    pub leaf : new.leaf ≡ Some (innermost.Number next)
-    pub outer : new.outer.items ≡ frames_above d.outer.items ++ frame_at_next part.frame ∷ []
+    pub at : new.at ≡ (d.at + part_taken.count) % 8
+    pub leaf : new.leaf ≡ Some (innermost.Number next_type)
+    pub outer : new.outer.items ≡ frames_above d.outer.items ++ frame_at_next part_taken.frame ∷ []

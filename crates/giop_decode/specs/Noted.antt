@@ -27,18 +27,18 @@ pub record Noted : Type 0 where
   pub key_so_far : List ℕ
 
 -- whether a segment is that of the member with this name
-abbrev pub is_name : (name : List ℕ) (segment : PathSegment) → Bool
+abbrev pub is_name : (member_name : List ℕ) (segment : PathSegment) → Bool
 is_name name (Name octets) = bytes_eq name octets
 is_name name segment = false
 
 -- whether a path is that of the root's member with this name
-abbrev pub is_member : (name : List ℕ) (path : List PathSegment) → Bool
+abbrev pub is_member : (member_name : List ℕ) (path_below_root : List PathSegment) → Bool
 is_member name (segment ∷ []) = is_name name segment
 is_member name path = false
 
 -- The path of the object key in a header: a member of the header in GIOP 1.0 and 1.1, and of its
 -- target in 1.2 (GIOP Message Formats, Request Header).
-abbrev pub is_key_path : (path : List PathSegment) → Bool
+abbrev pub is_key_path : (path_below_root : List PathSegment) → Bool
 is_key_path (segment ∷ []) = is_name (codes "object_key") segment
 is_key_path (outer ∷ inner ∷ []) =
     is_name (codes "target") outer && is_name (codes "object_key") inner
@@ -49,7 +49,7 @@ abbrev pub name_if_short : (octets : List ℕ) → Option (List ℕ)
 name_if_short octets = cond (ltb 128 (length octets)) None (Some octets)
 
 -- after a piece of a string whose end is to come
-abbrev pub with_string_piece : (before : Noted) (octets : List ℕ) → Noted
+abbrev pub with_string_piece : (before : Noted) (piece_octets : List ℕ) → Noted
 with_string_piece h octets = record h { name = None; so_far = h.so_far ++ octets; key_so_far = [] }
 
 -- after the end of a string: this is the last one, and no piece of another has come
@@ -57,7 +57,8 @@ abbrev pub with_string_ended : (before : Noted) → Noted
 with_string_ended h = record h { name = name_if_short h.so_far; so_far = [] }
 
 -- after a piece of a string; `more` says whether more pieces come
-abbrev pub note_string_piece : (before : Noted) (octets : List ℕ) (more : Bool) → Noted
+abbrev pub note_string_piece : (before : Noted) (piece_octets : List ℕ) (more_pieces_come : Bool) →
+    Noted
 note_string_piece h octets true = with_string_piece h octets
 note_string_piece h octets false = with_string_ended (with_string_piece h octets)
 
@@ -67,7 +68,7 @@ first_present (Some first) later = Some first
 first_present None later = later
 
 -- after one more value; `is_id` says whether it is a request id
-abbrev pub note_value : (is_id : Bool) (before : Noted) (value : Value) → Noted
+abbrev pub note_value : (is_request_id : Bool) (before : Noted) (value : Value) → Noted
 note_value is_id h (Number (Plain prims.ULong) n) =
     record h { request_id = first_present h.request_id (cond is_id (Some n) None) }
 note_value is_id h (Number (Enum count names) n) = record h { status = Some n; key = None }
@@ -80,7 +81,7 @@ abbrev pub may_have_key : (noted : Noted) → Bool
 may_have_key h = is_none h.name && ((length h.so_far == 0) && is_none h.status)
 
 -- after a piece of an object key whose end is to come
-abbrev pub with_key_piece : (before : Noted) (octets : List ℕ) → Noted
+abbrev pub with_key_piece : (before : Noted) (piece_octets : List ℕ) → Noted
 with_key_piece h octets = record h { key = None; key_so_far = h.key_so_far ++ octets }
 
 -- after the end of an object key
@@ -88,13 +89,14 @@ abbrev pub with_key_ended : (before : Noted) → Noted
 with_key_ended h = record h { key = name_if_short h.key_so_far; key_so_far = [] }
 
 -- after a piece of an object key; `more` says whether more pieces come
-abbrev pub note_key_piece : (before : Noted) (octets : List ℕ) (more : Bool) → Noted
+abbrev pub note_key_piece : (before : Noted) (piece_octets : List ℕ) (more_pieces_come : Bool) →
+    Noted
 note_key_piece h octets more =
     cond (may_have_key h)
     (cond more (with_key_piece h octets) (with_key_ended (with_key_piece h octets))) h
 
 -- after one more value; `is_key` says whether it is at the place of an object key
-abbrev pub note_key : (is_key : Bool) (before : Noted) (value : Value) → Noted
+abbrev pub note_key : (is_at_object_key : Bool) (before : Noted) (value : Value) → Noted
 note_key is_key h (Piece (Octets (Raw bound)) offset octets more) =
     cond is_key (note_key_piece h octets more) h
 note_key is_key h value = h
@@ -102,7 +104,7 @@ note_key is_key h value = h
 -- Whether a reply is expected, after one more value. GIOP 1.0 and 1.1 say it with a boolean, 1.2
 -- with bit 0 of an octet (GIOP Message Formats, Request Header).
 abbrev pub expects_after : (is_header : Bool) (path : List PathSegment) (value : Value)
-    (before : Option Bool) → Option Bool
+    (expects_reply_before : Option Bool) → Option Bool
 expects_after is_header path (Number (Plain prims.Boolean) n) before =
     cond (is_header && is_member (codes "response_expected") path) (Some (n % 2 == 1)) before
 expects_after is_header path (Number (Plain prims.Octet) n) before =
@@ -110,7 +112,7 @@ expects_after is_header path (Number (Plain prims.Octet) n) before =
 expects_after is_header path value before = before
 
 -- the same notes, but with this
-abbrev pub with_expects : (before : Noted) (expects : Option Bool) → Noted
+abbrev pub with_expects : (before : Noted) (expects_reply : Option Bool) → Noted
 with_expects h expects = record h { expects_reply = expects }
 
 -- after one more line; `is_header` says whether it is one of a header
@@ -155,7 +157,7 @@ ends_in_string (Fault lines at kinds.Untyped T) = false
 ends_in_string (Fault lines at kind T) = is_text T
 
 -- within a string there is no name
-abbrev pub without_name_if : (is_string : Bool) (before : Noted) → Noted
+abbrev pub without_name_if : (is_within_string : Bool) (before : Noted) → Noted
 without_name_if false h = h
 without_name_if true h = record h { name = None }
 

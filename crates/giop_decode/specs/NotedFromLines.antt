@@ -55,7 +55,7 @@ pub record TextPiece : Type 0 where
   pub more : Bool
 
 -- one with these fields
-abbrev pub piece : (offset : ℕ) (octets : List ℕ) (more : Bool) → TextPiece
+abbrev pub piece : (offset_in_string : ℕ) (octets : List ℕ) (more_pieces_come : Bool) → TextPiece
 piece offset octets more = record { offset = offset; octets = octets; more = more }
 
 -- the piece of a string that a value has, if it has one
@@ -68,7 +68,8 @@ abbrev pub text_pieces : (lines : List ValueAt) → List TextPiece
 text_pieces lines = filter_map (λ l. text_of l.value) lines
 
 -- a content from an offset in it on; `full` of its pieces aren't the last, and have 32 octets each
-abbrev pub pieces_from : (full offset : ℕ) (octets : List ℕ) → List TextPiece
+abbrev pub pieces_from : (full_piece_count offset_in_content : ℕ) (octets_from_offset : List ℕ) →
+    List TextPiece
 pieces_from zero offset octets = piece offset octets false ∷ []
 pieces_from (suc full) offset octets =
     piece offset (take 32 octets) true ∷ pieces_from full (offset + 32) (drop 32 octets)
@@ -93,7 +94,7 @@ pub record Strings (read : Read) : Type 0 where
 -- ---- object keys
 
 -- the piece of an object key that a value has; `is_key` says whether one is at this place
-abbrev pub key_of : (is_key : Bool) (value : Value) → Option TextPiece
+abbrev pub key_of : (is_at_object_key : Bool) (value : Value) → Option TextPiece
 key_of is_key (Piece (Octets (Raw bound)) offset octets more) =
     cond is_key (Some (piece offset octets more)) None
 key_of is_key value = None
@@ -107,7 +108,7 @@ key_pieces is_header lines = filter_map (key_piece is_header) lines
 
 -- The last content that these pieces give, if it has at most 128 octets; none within a content.
 -- `last` is the content before them, and `so_far` what has come of the next one.
-abbrev pub last_content : (last : Option (List ℕ)) (so_far : List ℕ)
+abbrev pub last_content : (content_before : Option (List ℕ)) (octets_since : List ℕ)
     (text_pieces : List TextPiece) → Option (List ℕ)
 last_content last so_far [] = last
 last_content last so_far (p ∷ ps) =
@@ -117,7 +118,7 @@ last_content last so_far (p ∷ ps) =
 -- ---- what is noted
 
 -- a string of more than 128 octets is no name
-abbrev pub name_of : (content : Option (List ℕ)) → Option (List ℕ)
+abbrev pub name_of : (last_whole_string : Option (List ℕ)) → Option (List ℕ)
 name_of None = None
 name_of (Some content) = name_if_short content
 

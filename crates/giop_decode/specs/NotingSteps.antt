@@ -17,13 +17,13 @@ use Rattle.giop_cdr.specs.declared.number.Number.TheVariants as numbers
 use Rattle.giop_sig.specs.Types.{Ty}
 
 -- whether a boolean is true, or bit 0 of a number is set
-abbrev pub is_set : (number : Taken) → Bool
+abbrev pub is_set : (boolean_or_number : Taken) → Bool
 is_set (numbers.Truth truth) = truth
 is_set (numbers.Unsigned n) = n % 2 == 1
 is_set number = false
 
 -- the octets of an object key may be noted: there is no string and no enum
-abbrev pub HasNoString : (buffer : Buffer) (octets : List ℕ) → Type 0
+abbrev pub HasNoString : (buffer : Buffer) (buffer_octets : List ℕ) → Type 0
 HasNoString buffers.Begun octets = octets ≡ []
 HasNoString buffers.Whole octets = ⊥
 HasNoString buffers.TooLong octets = ⊥
@@ -69,7 +69,8 @@ transition_offset T transition = None
 -- Where in its string the unfinished piece begins before and after an octet with this output, whose
 -- piece has `count` octets. A length leads into a string, a piece that isn't the last goes on after
 -- its 32 octets, and the last piece leads out.
-abbrev pub OffsetMoves : (T : Ty) (before after : Option ℕ) (output : Output) (count : ℕ) → Type 0
+abbrev pub OffsetMoves : (T : Ty) (string_offset_before string_offset_after : Option ℕ)
+    (output : Output) (piece_size : ℕ) → Type 0
 OffsetMoves T was next outputs.Nothing count = next ≡ was
 OffsetMoves T was next outputs.Length count = (was ≡ None) × (next ≡ Some 0)
 OffsetMoves T was next (outputs.Piece offset true) count =
@@ -80,8 +81,8 @@ OffsetMoves T was next (outputs.Piece offset false) count =
 OffsetMoves T was next output count = (was ≡ None) × (next ≡ None)
 
 -- the same for a transition; nothing is said if a rule is broken
-abbrev pub StringGoesOn : (T : Ty) (before : Option ℕ) (transition : Transition) (output : Output)
-    (count : ℕ) → Type 0
+abbrev pub StringGoesOn : (T : Ty) (string_offset_before : Option ℕ) (transition : Transition)
+    (output : Output) (piece_size : ℕ) → Type 0
 StringGoesOn T was (transitions.Refused kind) output count = Unit {0}
 StringGoesOn T was transition output count =
     OffsetMoves T was (transition_offset T transition) output count

@@ -34,7 +34,7 @@ pub record ValueAt : Type 0 where
   pub value : Value
 
 -- the line of a value at a path; the offset is that just after its last octet
-abbrev pub line : (at : ℕ) (path : List PathSegment) (value : Value) → ValueAt
+abbrev pub line : (offset_after_value : ℕ) (path : List PathSegment) (value : Value) → ValueAt
 line at path value = record { at = at; path = path; value = value }
 
 -- ---- how octets are taken
@@ -46,7 +46,7 @@ pub record Coding : Type 0 where
   pub phase : ℕ → ℕ
 
 -- this order, and alignment counted from this offset
-abbrev pub coding_from : (order : Order) (origin : ℕ) → Coding
+abbrev pub coding_from : (order : Order) (alignment_origin : ℕ) → Coding
 coding_from order origin = record { order = order; phase = λ at. at - origin }
 
 -- the coding of a message: alignment is counted from its first octet
@@ -55,14 +55,14 @@ message_coding order = record { order = order; phase = λ at. at }
 
 -- From this offset on octets are of a Fragment of GIOP 1.1: its alignment is counted from its own
 -- first octet, so that its payload begins at 12.
-abbrev pub fragment_aligned_from : (coding : Coding) (here : ℕ) → Coding
+abbrev pub fragment_aligned_from : (coding : Coding) (fragment_payload_offset : ℕ) → Coding
 fragment_aligned_from coding here = record {
   order = coding.order;
   phase = λ at. cond (ltb at here) (coding.phase at) (12 + (at - here));
 }
 
 -- no Fragment begins after this offset: each octet counts one more
-abbrev pub IsEvenFrom : (coding : Coding) (here : ℕ) → Type 0
+abbrev pub IsEvenFrom : (coding : Coding) (offset_in_message : ℕ) → Type 0
 IsEvenFrom coding here = (k : ℕ) → coding.phase (here + k) % 8 ≡ (coding.phase here + k) % 8
 
 -- ---- parts that have begun and not ended
@@ -105,19 +105,19 @@ lines_of (Short lines at outer leaf) = lines
 lines_of (Fault lines at kind S) = lines
 
 -- a reading with these lines before its own
-abbrev pub with_front : (front : List ValueAt) (read : Read) → Read
+abbrev pub with_front : (lines_before : List ValueAt) (read : Read) → Read
 with_front front (Done lines at rest) = Done (front ++ lines) at rest
 with_front front (Short lines at outer leaf) = Short (front ++ lines) at outer leaf
 with_front front (Fault lines at kind S) = Fault (front ++ lines) at kind S
 
 -- what comes next is read from where the first reading ended
-abbrev pub read_then : (read : Read) (next : ℕ → List ℕ → Read) → Read
+abbrev pub read_then : (read : Read) (read_from_offset_and_rest : ℕ → List ℕ → Read) → Read
 read_then (Done lines at rest) next = with_front lines (next at rest)
 read_then (Short lines at outer leaf) next = Short lines at outer leaf
 read_then (Fault lines at kind S) next = Fault lines at kind S
 
 -- a reading within a part
-abbrev pub within : (part : OpenPart) (read : Read) → Read
+abbrev pub within : (outermost_part_added : OpenPart) (read : Read) → Read
 within place (Done lines at rest) = Done lines at rest
 within place (Short lines at outer leaf) = Short lines at (place ∷ outer) leaf
 within place (Fault lines at kind S) = Fault lines at kind S

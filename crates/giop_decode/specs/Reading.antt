@@ -15,13 +15,14 @@ use Rattle.giop_sig.specs.declared.types.Selected.{Selected}
 use Rattle.giop_sig.specs.declared.types.Selected.TheVariants.{Case, Nothing, Refused}
 
 -- what comes after the number that begins a type
-abbrev pub after_leading_number : (T : Ty) (after : List ℕ → ℕ → List ℕ → Read) (block : Block) →
-    Read
+abbrev pub after_leading_number : (T : Ty) (read_after_number : List ℕ → ℕ → List ℕ → Read)
+    (number_block : Block) → Read
 after_leading_number T after (Partial carry at) = Short [] at [] (LeadingNumber T carry)
 after_leading_number T after (Complete octets at rest) = after octets at rest
 
 -- a number isn't a kind if it has no word
-abbrev pub kind_fault : (kind : Bool) (word : Option (List ℕ)) → Option ValueFault
+abbrev pub kind_fault : (is_typecode_kind : Bool) (word_of_kind : Option (List ℕ)) →
+    Option ValueFault
 kind_fault true None = Some kinds.Enum
 kind_fault kind word = None
 
@@ -34,21 +35,22 @@ number_fault (Enum count names) number = cond (ltb number count) None (Some kind
 number_fault (Marked mark) number = kind_fault (is_kind mark) (kind_word number)
 
 -- a value of one number, after its octets
-abbrev pub read_single : (path : List PathSegment) (scalar : Scalar) (number at : ℕ)
-    (rest : List ℕ) → Read
+abbrev pub read_single : (path : List PathSegment) (scalar : Scalar)
+    (number offset_after_number : ℕ) (octets_after_number : List ℕ) → Read
 read_single path scalar number at rest =
     fault_or (Single scalar) (number_fault scalar number) at
     (Done (line at path (Number scalar number) ∷ []) at rest)
 
 -- `more` parts, from part `index` on, each from where the one before it ended
-abbrev pub parts_from : (part : ℕ → ℕ → List ℕ → Read) (more index at : ℕ) (octets : List ℕ) → Read
+abbrev pub parts_from : (read_part : ℕ → ℕ → List ℕ → Read)
+    (parts_left first_index offset_of_first_octet : ℕ) (octets : List ℕ) → Read
 parts_from part zero index at octets = Done [] at octets
 parts_from part (suc more) index at octets =
     read_then (part index at octets) (parts_from part more (suc index))
 
 -- what a discriminator selects
-abbrev pub selected_case : (selected : Selected) (case : ℕ → ℕ → List ℕ → Read) (at : ℕ)
-    (octets : List ℕ) → Read
+abbrev pub selected_case : (selected : Selected) (read_case : ℕ → ℕ → List ℕ → Read)
+    (offset_of_first_octet : ℕ) (octets : List ℕ) → Read
 selected_case (Case i) case at octets = case i at octets
 selected_case Nothing case at octets = Done [] at octets
 selected_case Refused case at octets = Done [] at octets
@@ -59,10 +61,10 @@ disposition_fault Refused = Some kinds.Disposition
 disposition_fault _ = None
 
 -- a union after its discriminator, which has a line if its value is allowed
-abbrev pub after_discriminator : (path : List PathSegment) (T : Ty) (tag : Option (List ℕ))
-    (scalar : Scalar)
-    (selected : Selected) (number : ℕ) (case : ℕ → ℕ → List ℕ → Read) (at : ℕ) (rest : List ℕ) →
-    Read
+abbrev pub after_discriminator : (path : List PathSegment) (T : Ty)
+    (discriminator_label : Option (List ℕ)) (discriminator_type : Scalar) (selected : Selected)
+    (discriminator : ℕ) (read_case : ℕ → ℕ → List ℕ → Read) (offset_after_number : ℕ)
+    (octets_after_number : List ℕ) → Read
 after_discriminator path T tag scalar selected number case at rest =
     fault_or T (number_fault scalar number) at (fault_or T (disposition_fault selected) at
     (with_front (line at (path ++ Switch tag ∷ []) (Number scalar number) ∷ [])
@@ -71,14 +73,14 @@ after_discriminator path T tag scalar selected number case at rest =
 -- ---- encapsulations
 
 -- the byte order that an octet stands for
-abbrev pub order_of : (number : ℕ) → Option Order
+abbrev pub order_of : (order_octet : ℕ) → Option Order
 order_of zero = Some Big
 order_of (suc zero) = Some Little
 order_of number = None
 
 -- the octets of an encapsulation after its value
-abbrev pub encapsulation_rest : (path : List PathSegment) (T : Ty) (count at : ℕ)
-    (octets : List ℕ) → Read
+abbrev pub encapsulation_rest : (path : List PathSegment) (T : Ty)
+    (rest_size offset_of_first_octet : ℕ) (octets : List ℕ) → Read
 encapsulation_rest path T zero at octets = Done [] at octets
 encapsulation_rest path T (suc count) at octets =
     content T path (suc count) (full_pieces (suc count)) 0 at octets
@@ -94,8 +96,9 @@ type_at_cut (Opening T n) = Encapsulation T
 -- octets of the reading that are left from an offset on, and `more` are those after all that were
 -- read. If the value has ended, or what comes in it has no type, what is left is the rest. If the
 -- value needs one more octet, there is none if the octets of the encapsulation have ended.
-abbrev pub enclosed : (path : List PathSegment) (T : Ty) (coding : Coding) (end : ℕ)
-    (left : ℕ → List ℕ) (read : Read) (more : List ℕ) → Read
+abbrev pub enclosed : (path : List PathSegment) (T : Ty) (coding : Coding)
+    (encapsulation_end_offset : ℕ) (octets_left_from_offset : ℕ → List ℕ) (read : Read)
+    (octets_after_read : List ℕ) → Read
 enclosed path T coding end left (Done lines at rest) more =
     with_front lines (encapsulation_rest path T (end - at) at (rest ++ more))
 enclosed path T coding end left (Short lines at outer leaf) more =
@@ -106,16 +109,18 @@ enclosed path T coding end left (Fault lines at kinds.Untyped S) more =
 enclosed path T coding end left (Fault lines at kind S) more = Fault lines at kind S
 
 -- the octets of a list that begins at an offset, from another offset on
-abbrev pub left_after : (at : ℕ) (octets : List ℕ) (here : ℕ) → List ℕ
+abbrev pub left_after : (offset_of_first_octet : ℕ) (octets : List ℕ) (offset_of_first_left : ℕ) →
+    List ℕ
 left_after at octets here = drop (here - at) octets
 
 -- nothing is left after a single octet
-abbrev pub none_left : (here : ℕ) → List ℕ
+abbrev pub none_left : (offset_in_message : ℕ) → List ℕ
 none_left here = []
 
 -- The value in an encapsulation is read from its `count` octets alone.
-abbrev pub inside : (path : List PathSegment) (T : Ty) (value : Coding → ℕ → List ℕ → Read)
-    (coding : Coding) (count at : ℕ) (octets : List ℕ) → Read
+abbrev pub inside : (path : List PathSegment) (T : Ty) (read_value : Coding → ℕ → List ℕ → Read)
+    (coding : Coding) (size_after_order_octet offset_after_order_octet : ℕ)
+    (octets_after_order_octet : List ℕ) → Read
 inside path T value coding count at octets =
     enclosed path T coding (at + count) (left_after at (take count octets))
     (value coding at (take count octets))
@@ -123,8 +128,8 @@ inside path T value coding count at octets =
 
 -- an encapsulation after the octet with its byte order; alignment is counted from that octet
 abbrev pub after_order_octet : (path : List PathSegment) (T : Ty)
-    (value : Coding → ℕ → List ℕ → Read)
-    (origin count : ℕ) (order : Option Order) (at : ℕ) (rest : List ℕ) → Read
+    (read_value : Coding → ℕ → List ℕ → Read) (alignment_origin size_after_order_octet : ℕ)
+    (order : Option Order) (offset_after_order_octet : ℕ) (octets_after_order_octet : List ℕ) → Read
 after_order_octet path T value origin count None at rest = Fault [] at kinds.EncapOrder T
 after_order_octet path T value origin count (Some order) at rest =
     with_front (line at path (Ordered order) ∷ [])
@@ -132,14 +137,16 @@ after_order_octet path T value origin count (Some order) at rest =
 
 -- an encapsulation from the octet with its byte order on
 abbrev pub from_order_octet : (path : List PathSegment) (T : Ty)
-    (value : Coding → ℕ → List ℕ → Read) (origin count : ℕ) (block : Block) → Read
+    (read_value : Coding → ℕ → List ℕ → Read) (alignment_origin size_after_order_octet : ℕ)
+    (order_octet_block : Block) → Read
 from_order_octet path T value origin count (Partial none at) = Short [] at [] (Opening T count)
 from_order_octet path T value origin count (Complete octets at rest) =
     after_order_octet path T value origin count (order_of (get_or octets 0 0)) at rest
 
 -- an encapsulation after the number of its octets
 abbrev pub after_encapsulation_size : (path : List PathSegment) (T : Ty)
-    (value : Coding → ℕ → List ℕ → Read) (count at : ℕ) (octets : List ℕ) → Read
+    (read_value : Coding → ℕ → List ℕ → Read) (encapsulation_size offset_after_size : ℕ)
+    (octets_after_size : List ℕ) → Read
 after_encapsulation_size path T value zero at octets = Fault [] at kinds.EncapShort T
 after_encapsulation_size path T value (suc count) at octets =
     from_order_octet path T value at count (block 1 at octets)
@@ -153,37 +160,37 @@ sign_of (Count n) = Some (Counted n)
 sign_of (Piece (Text bound) offset octets more) = Some (Spelt octets more)
 sign_of value = None
 
-abbrev pub told_after_sign : (h : TypeInference) (told : InferredType) (sign : Option Sign) →
-    InferredType
+abbrev pub told_after_sign : (inference : TypeInference) (told_before : InferredType)
+    (sign : Option Sign) → InferredType
 told_after_sign h told None = told
 told_after_sign h told (Some sign) = h.inferred_after told sign
 
 -- what has been told after these lines
-abbrev pub told_after : (h : TypeInference) (told : InferredType) (lines : List ValueAt) →
-    InferredType
+abbrev pub told_after : (inference : TypeInference) (told_before : InferredType)
+    (lines : List ValueAt) → InferredType
 told_after h told [] = told
 told_after h told (l ∷ ls) = told_after h (told_after_sign h told (sign_of l.value)) ls
 
 -- the name of the part that tells, which is the type of an any, and of what comes after it, which
 -- is its value
-abbrev pub led_name : (index : ℕ) → List ℕ
+abbrev pub led_name : (place_in_any : ℕ) → List ℕ
 led_name zero = codes "type"
 led_name (suc index) = codes "value"
 
-abbrev pub led_segment : (index : ℕ) → PathSegment
+abbrev pub led_segment : (place_in_any : ℕ) → PathSegment
 led_segment index = Name (led_name index)
 
 -- what comes next
-abbrev pub read_sequel : (T : Ty) (sequel : Sequel) (part : ℕ → ℕ → List ℕ → Read) (at : ℕ)
-    (octets : List ℕ) → Read
+abbrev pub read_sequel : (T : Ty) (sequel : Sequel) (read_part : ℕ → ℕ → List ℕ → Read)
+    (offset_of_first_octet : ℕ) (octets : List ℕ) → Read
 read_sequel T (Then i) part at octets = part i at octets
 read_sequel T Ends part at octets = Done [] at octets
 read_sequel T Stops part at octets = Fault [] at kinds.Untyped T
 
 -- a type that begins with a part that tells what comes after it, from the reading of that part so
 -- far
-abbrev pub led : (T : Ty) (h : TypeInference) (told : InferredType) (part : ℕ → ℕ → List ℕ → Read)
-    (read : Read) → Read
+abbrev pub led : (T : Ty) (inference : TypeInference) (told_before : InferredType)
+    (read_part_told : ℕ → ℕ → List ℕ → Read) (read_of_telling_part : Read) → Read
 led T h told part (Done lines at rest) =
     with_front lines (read_sequel T (sequel h (told_after h told lines)) part at rest)
 led T h told part (Short lines at outer leaf) =
@@ -194,9 +201,8 @@ led T h told part (Fault lines at kind S) = Fault lines at kind S
 
 -- `count` elements, if they have room; if not, octets of no known type come after the number,
 -- unless it is 0
-abbrev pub recursive_elements : (T : Ty) (fits : Bool) (count : ℕ) (parts : ℕ → List ℕ → Read)
-    (at : ℕ)
-    (octets : List ℕ) → Read
+abbrev pub recursive_elements : (T : Ty) (elements_have_room : Bool) (element_count : ℕ)
+    (read_elements : ℕ → List ℕ → Read) (offset_of_first_octet : ℕ) (octets : List ℕ) → Read
 recursive_elements T true count parts at octets = parts at octets
 recursive_elements T false zero parts at octets = Done [] at octets
 recursive_elements T false (suc count) parts at octets = Fault [] at kinds.Untyped T
@@ -204,8 +210,8 @@ recursive_elements T false (suc count) parts at octets = Fault [] at kinds.Untyp
 -- ---- any type
 
 -- A value of this type from these octets, whose first octet is at this offset of the message
-abbrev pub read : (coding : Coding) (path : List PathSegment) (T : Ty) (at : ℕ) (octets : List ℕ) →
-    Read
+abbrev pub read : (coding : Coding) (path : List PathSegment) (T : Ty) (offset_of_first_octet : ℕ)
+    (octets : List ℕ) → Read
 read coding path (Single scalar) at s =
     after_leading_number (Single scalar) (λ xs at rest.
     read_single path scalar (num coding.order xs) at rest)
@@ -261,12 +267,12 @@ read coding path (Led h F parts) at s =
 -- ---- a whole value
 
 -- A whole value ends before octets of no known type; what is left is all from that offset on.
-abbrev pub done_if_untyped : (left : ℕ → List ℕ) (r : Read) → Read
+abbrev pub done_if_untyped : (octets_left_from_offset : ℕ → List ℕ) (read_of_value : Read) → Read
 done_if_untyped left (Fault lines at kinds.Untyped S) = Done lines at (left at)
 done_if_untyped left r = r
 
 -- a whole value
-abbrev pub reading : (coding : Coding) (path : List PathSegment) (T : Ty) (at : ℕ)
-    (octets : List ℕ) → Read
+abbrev pub reading : (coding : Coding) (path : List PathSegment) (T : Ty)
+    (offset_of_first_octet : ℕ) (octets : List ℕ) → Read
 reading coding path T at octets = done_if_untyped (left_after at octets)
     (read coding path T at octets)

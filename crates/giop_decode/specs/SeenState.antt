@@ -52,11 +52,11 @@ pub record NotesFitRoot (C : Table) (root : Root) (notes : Notes) : Type 0 where
 
 -- An offset that a decoder may be at, by the coding of its octets: the offset's phase modulo 8 is
 -- the decoder's, no Fragment begins after it, and the encapsulations have begun before it.
-pub record CanStandAt (coding : Coding) (d : Decoder) (here : ℕ) : Type 0 where
+pub record CanStandAt (coding : Coding) (d : Decoder) (offset_in_message : ℕ) : Type 0 where
   pub order : d.order ≡ coding.order
-  pub phase : coding.phase here % 8 ≡ d.at
-  pub even : IsEvenFrom coding here
-  pub outer : StandAt here d.outer.items
+  pub phase : coding.phase offset_in_message % 8 ≡ d.at
+  pub even : IsEvenFrom coding offset_in_message
+  pub outer : StandAt offset_in_message d.outer.items
 
 -- A decoder that is neither done nor at a fault: its frames have types of the table, each that of
 -- the part that the frame before is at.
@@ -92,19 +92,20 @@ IsDone d = d.leaf ≡ None
 -- the reading that the fields of a decoder stand for, with this innermost part, and with these
 -- lines at this offset
 abbrev pub read_by_leaf : (C : Table) (d : Decoder) (leaf : Option Innermost) (lines : List ValueAt)
-    (at : ℕ) → Read
+    (offset_reached : ℕ) → Read
 read_by_leaf C d None lines at = Done lines at []
 read_by_leaf C d (Some leaf) lines at =
     Short lines at (open_parts C at d.outer.items)
     (leaf_of C d.outer.items leaf d.carry d.piece.items)
 
 -- the reading that the fields of a decoder stand for, with these lines at this offset
-abbrev pub read_by_fields : (C : Table) (d : Decoder) (lines : List ValueAt) (at : ℕ) → Read
+abbrev pub read_by_fields : (C : Table) (d : Decoder) (lines : List ValueAt) (offset_reached : ℕ) →
+    Read
 read_by_fields C d lines at = read_by_leaf C d d.leaf lines at
 
 -- What the name buffer has: the last name, the octets of a string that hasn't ended, or those of an
 -- object key; none if they are more than 128.
-abbrev pub BufferHolds : (buffer : Buffer) (octets : List ℕ) (name : Option (List ℕ))
+abbrev pub BufferHolds : (buffer : Buffer) (buffer_octets : List ℕ) (last_name : Option (List ℕ))
     (string_so_far key_so_far : List ℕ) → Type 0
 BufferHolds buffers.Whole octets name so_far key_so_far =
     (name ≡ Some octets) × (so_far ≡ []) × (key_so_far ≡ [])
@@ -119,7 +120,7 @@ BufferHolds buffers.LongKey octets name so_far key_so_far =
 
 -- The octets that are held of an object key: none if the table has no KEYs, as no key has an
 -- interface then.
-abbrev pub key_octets_held : (C : Table) (octets : List ℕ) → List ℕ
+abbrev pub key_octets_held : (C : Table) (key_octets : List ℕ) → List ℕ
 key_octets_held C [] = []
 key_octets_held C (x ∷ so_far) = cond (has_keys C) (x ∷ so_far) []
 
@@ -136,16 +137,18 @@ IsInterfaceOfKey C false interface key = Unit {0}
 
 -- The notes have what was noted: the request id, the status, whether a reply is expected, the
 -- interface of the object key if it is asked for, and the name or the octets of one or of a key.
-pub record HaveNoted (C : Table) (asked : Bool) (notes : Notes) (noted : Noted) : Type 0 where
+pub record HaveNoted (C : Table) (interface_is_asked : Bool) (notes : Notes) (noted : Noted)
+    : Type 0 where
   pub request_id : notes.request_id ≡ noted.request_id
   pub status : status_of notes.last ≡ noted.status
-  pub interface : IsInterfaceOfKey C asked (interface_of notes.last) noted.key
+  pub interface : IsInterfaceOfKey C interface_is_asked (interface_of notes.last) noted.key
   pub expects_reply : notes.expects_reply ≡ noted.expects_reply
   pub name : BufferHolds notes.buffer notes.name.items noted.name noted.so_far
       (key_octets_held C noted.key_so_far)
 
 -- the same for a table, whichever version of messages sees it
-abbrev pub HoldsNoted : (C : Table) (asked : Bool) (notes : Notes) (noted : Noted) → Type 0
+abbrev pub HoldsNoted : (C : Table) (interface_is_asked : Bool) (notes : Notes) (noted : Noted) →
+    Type 0
 HoldsNoted C asked m h = HaveNoted (seen false C) asked m h
 
 -- the notes of the decoder are those of a reading, whether it goes on, has ended or is at a fault
@@ -154,28 +157,30 @@ KeepsNoted C root d r = HoldsNoted C true d.notes (noted_of (is_header_root root
 
 -- The fields of the decoder are what reading the list has begun and not ended, and what is noted of
 -- it.
-pub record Reads (C : Table) (T : Ty) (coding : Coding) (at message : ℕ) (root : Root) (d : Decoder)
-    (octets : List ℕ) : Type 0 where
+pub record Reads (C : Table) (T : Ty) (coding : Coding) (offset_of_first_octet message_number : ℕ)
+    (root : Root) (d : Decoder) (octets : List ℕ) : Type 0 where
   pub lines : List ValueAt
-  pub is : reading coding [] T at octets ≡ read_by_fields C d lines (at + length octets)
-  pub keeps_noted : KeepsNoted C root d (reading coding [] T at octets)
+  pub is : reading coding [] T offset_of_first_octet octets
+      ≡ read_by_fields C d lines (offset_of_first_octet + length octets)
+  pub keeps_noted : KeepsNoted C root d (reading coding [] T offset_of_first_octet octets)
   pub forbids_wide : d.forbids_wide ≡ C.forbids_wide
-  pub same_message : d.head.message ≡ message
+  pub same_message : d.head.message ≡ message_number
   pub same_root : d.head.root ≡ root
-  pub offset : CanStandAt coding d (at + length octets)
+  pub offset : CanStandAt coding d (offset_of_first_octet + length octets)
 
 -- ---- one more octet
 
 -- the lines of the octet
-abbrev pub added_lines : (coding : Coding) (T : Ty) (at : ℕ) (octets : List ℕ) (octet : ℕ) →
-    List ValueAt
+abbrev pub added_lines : (coding : Coding) (T : Ty) (offset_of_first_octet : ℕ)
+    (octets_taken_before : List ℕ) (next_octet : ℕ) → List ValueAt
 added_lines coding T at octets octet =
     drop (length (lines_of (reading coding [] T at octets)))
     (lines_of (reading coding [] T at (octets ++ octet ∷ [])))
 
 -- The answer to the last octet of a list that ends at this offset: the value goes on, has ended at
 -- that octet, or is at a fault there. `named` says whether the octet ends an operation.
-abbrev pub IsAnswer : (end : ℕ) (named : Bool) (p : Progress) (r : Read) → Type 0
+abbrev pub IsAnswer : (offset_after_last_octet : ℕ) (operation_named : Bool) (p : Progress)
+    (r : Read) → Type 0
 IsAnswer end named progress.More (Short lines at outer leaf) = named ≡ false
 IsAnswer end named progress.Named (Short lines at outer leaf) = named ≡ true
 IsAnswer end named progress.Done (Done lines at rest) = rest ≡ []
@@ -195,10 +200,14 @@ IsFault p = ⊥
 
 -- A decoder that has read a list gives this answer to one more octet. It has then read the longer
 -- list, unless there is a fault.
-pub record Takes (C : Table) (T : Ty) (coding : Coding) (at message : ℕ) (root : Root) (d : Decoder)
-    (taken : List ℕ) (octet : ℕ) (p : Progress) : Type 0 where
-  pub answer : IsAnswer (at + length (taken ++ octet ∷ []))
-      (names_operation (is_header_root root) (added_lines coding T at taken octet)) p
-      (reading coding [] T at (taken ++ octet ∷ []))
-  pub reads : (IsFault p → ⊥) → Reads C T coding at message root d (taken ++ octet ∷ [])
-  pub keeps_noted : KeepsNoted C root d (reading coding [] T at (taken ++ octet ∷ []))
+pub record Takes (C : Table) (T : Ty) (coding : Coding) (offset_of_first_octet message_number : ℕ)
+    (root : Root) (d : Decoder) (octets_taken_before : List ℕ) (next_octet : ℕ) (p : Progress)
+    : Type 0 where
+  pub answer : IsAnswer (offset_of_first_octet + length (octets_taken_before ++ next_octet ∷ []))
+      (names_operation (is_header_root root) (added_lines coding T offset_of_first_octet
+      octets_taken_before next_octet)) p
+      (reading coding [] T offset_of_first_octet (octets_taken_before ++ next_octet ∷ []))
+  pub reads : (IsFault p → ⊥) → Reads C T coding offset_of_first_octet message_number root d
+      (octets_taken_before ++ next_octet ∷ [])
+  pub keeps_noted : KeepsNoted C root d (reading coding [] T offset_of_first_octet
+      (octets_taken_before ++ next_octet ∷ []))

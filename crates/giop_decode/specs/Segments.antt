@@ -18,7 +18,7 @@ IsUnionOrNone C None = Unit {0}
 IsUnionOrNone C (Some of) = (of.0 < length C.types) × IsUnion (shape_in (tree C of.0))
 
 -- the segment of a discriminator within these frames, if one is meant
-abbrev pub discriminator_segments : (C : Table) (frames : List Frame) (of : Option TypeId) →
+abbrev pub discriminator_segments : (C : Table) (frames : List Frame) (union : Option TypeId) →
     List PathSegment
 discriminator_segments C frames None = []
 discriminator_segments C frames (Some of) = switch_segment (tree_in C frames of.0) ∷ []
@@ -30,7 +30,7 @@ discriminator_text C (Some of) = segment_text (switch_segment (tree C of.0))
 
 -- which part of an any's frame is being read: its type at place 0, as long as that tells what comes
 -- after it
-abbrev pub led_part_index : (stage : Option Stage) (index : ℕ) → ℕ
+abbrev pub led_part_index : (telling_stage : Option Stage) (place : ℕ) → ℕ
 led_part_index None index = index
 led_part_index (Some stage) index = 0
 

@@ -31,13 +31,14 @@ unfoldable pub path_text : (root : Root) (path : List PathSegment) → List ℕ
 path_text root path = root_word root ++ segments_text path
 
 -- the words of a number that is a value of its primitive type
-abbrev pub number_words : Primitive → Option Taken → List (List ℕ)
+abbrev pub number_words : (primitive : Primitive) (valid_number : Option Taken) → List (List ℕ)
 number_words p None = []
 number_words p (Some number) = spaced (kind_word p) ∷ number_text (size_of p) number ∷ []
 
 -- the words of a number with a mark: a kind has a word, and any other number may have a name after
 -- it
-abbrev pub marked_words : (word name : Option (List ℕ)) (number : ℕ) → List (List ℕ)
+abbrev pub marked_words : (word_of_kind name_of_number : Option (List ℕ)) (number : ℕ) →
+    List (List ℕ)
 marked_words (Some word) name number = codes " enum " ∷ word ∷ []
 marked_words None (Some name) number = codes " ulong " ∷ decimal number ∷ codes " " ∷ name ∷ []
 marked_words None None number = codes " ulong " ∷ decimal number ∷ []
@@ -49,7 +50,7 @@ octets_word WideText = codes " wstring @"
 octets_word WideChar = codes " wchar @"
 
 -- the words of a value's line, after its path
-abbrev pub value_words : Value → List (List ℕ)
+abbrev pub value_words : (value : Value) → List (List ℕ)
 value_words (Number (Plain p) n) = number_words p (interpreted_as p n)
 value_words (Number (Enum count names) n) = codes " enum " ∷ names n ∷ []
 value_words (Number (Marked mark) n) = marked_words (marked_word mark n) (marked_name mark n) n
@@ -65,15 +66,15 @@ value_words (Ordered order) = codes " order " ∷ order_word order ∷ []
 value_words value = []
 
 -- the line of a value at a path, in the message with this number
-abbrev pub value_text : (message : ℕ) (path : List ℕ) (value : Value) → List ℕ
+abbrev pub value_text : (message_number : ℕ) (text_of_path : List ℕ) (value : Value) → List ℕ
 value_text message path value =
     joined (codes "m" ∷ decimal message ∷ codes " " ∷ path ∷ (value_words value ++ codes "\n" ∷ []))
 
 -- the line of a value, in the message with this number and below a root
-abbrev pub line_text : (message : ℕ) (root : Root) (line : ValueAt) → List ℕ
+abbrev pub line_text : (message_number : ℕ) (root : Root) (line : ValueAt) → List ℕ
 line_text message root l = value_text message (path_text root l.path) l.value
 
 -- the text of lines, one after another
-unfoldable pub lines_text : (message : ℕ) (root : Root) (lines : List ValueAt) → List ℕ
+unfoldable pub lines_text : (message_number : ℕ) (root : Root) (lines : List ValueAt) → List ℕ
 lines_text message root [] = []
 lines_text message root (l ∷ ls) = line_text message root l ++ lines_text message root ls

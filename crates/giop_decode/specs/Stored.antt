@@ -87,7 +87,7 @@ saved_last (lasts.Status n) = 1 ∷ four n
 saved_last (lasts.Interface i) = 2 ∷ four i.0
 
 -- what is kept of a name: nothing if the buffer is too short
-abbrev pub saved_name : (buffer : Buffer) (name : List ℕ) → List ℕ
+abbrev pub saved_name : (buffer : Buffer) (buffer_octets : List ℕ) → List ℕ
 saved_name buffers.TooLong name = []
 saved_name buffers.Begun name = name
 saved_name buffers.Whole name = name
@@ -119,12 +119,12 @@ abbrev pub frame_size : ℕ
 frame_size = FRAME_SIZE
 
 -- the octet for the byte order of a frame: none, big or little
-abbrev pub saved_inside : (order : Option Order) → ℕ
+abbrev pub saved_inside : (encapsulation_order : Option Order) → ℕ
 saved_inside None = 0
 saved_inside (Some order) = 1 + saved_order order
 
 -- the octet for what was told in a frame: none, or its stage
-abbrev pub saved_stage : (stage : Option Stage) → ℕ
+abbrev pub saved_stage : (telling_stage : Option Stage) → ℕ
 saved_stage None = 0
 saved_stage (Some stages.Untold) = 1
 saved_stage (Some stages.Awaits) = 2
@@ -185,11 +185,11 @@ pub record HasRange (d : Decoder) : Type 0 where
 -- ---- a decoder that is stored
 
 -- these octets are what is stored of the decoder
-pub record Stored (d : Decoder) (fixed frames : List ℕ) : Type 0 where
+pub record Stored (d : Decoder) (fixed_octets frame_octets : List ℕ) : Type 0 where
   pub leaf : Innermost
   pub goes_on : d.leaf ≡ Some leaf
-  pub fixed_are : fixed ≡ saved_fixed d leaf
-  pub frames_are : frames ≡ saved_frames (d.outer.items ++ leaf_frame leaf ∷ [])
+  pub fixed_are : fixed_octets ≡ saved_fixed d leaf
+  pub frames_are : frame_octets ≡ saved_frames (d.outer.items ++ leaf_frame leaf ∷ [])
   pub range : HasRange d
   pub leaf_range : LeafHasRange leaf
   pub outer_range : AllByRecursion FrameHasRange d.outer.items

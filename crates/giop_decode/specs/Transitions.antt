@@ -37,7 +37,7 @@ use Rattle.giop_sig.specs.Trees.{part_number_in, tree_at}
 -- ---- frames
 
 -- in a union the index is that of a case
-abbrev pub part_in : (T : Ty) (index count : ℕ) → OpenPart
+abbrev pub part_in : (T : Ty) (part_or_case_index part_count : ℕ) → OpenPart
 part_in (Union choice scalar select names cases) index count =
     Member (Union choice scalar select names cases) index
 part_in (Led h F parts) index count = Member (Led h F parts) index
@@ -45,7 +45,8 @@ part_in T index count = Part T index count
 
 -- In an encapsulation the index is how many of its octets come before this offset, and the count is
 -- how many it has.
-abbrev pub open_part_in : (here : ℕ) (order : Option Order) (T : Ty) (index count : ℕ) → OpenPart
+abbrev pub open_part_in : (offset_in_message : ℕ) (encapsulation_order : Option Order) (T : Ty)
+    (index_or_octets_taken count_of_parts_or_octets : ℕ) → OpenPart
 open_part_in here None T index count = part_in T index count
 open_part_in here (Some order) T index count =
     Inside T (coding_from order (here - index)) (here + (count - index))
@@ -75,28 +76,30 @@ number_of signal = 0
 
 -- If a type's first part tells what comes after it and is being read, the stage and the index say
 -- what it has told.
-abbrev pub part_as : (stage : Option Stage) (here : ℕ) (inside : Option Order) (T : Ty)
-    (index count : ℕ) → OpenPart
+abbrev pub part_as : (telling_stage : Option Stage) (offset_in_message : ℕ)
+    (encapsulation_order : Option Order) (T : Ty)
+    (index_or_octets_taken count_of_parts_or_octets : ℕ) → OpenPart
 part_as None here inside T index count = open_part_in here inside T index count
 part_as (Some stage) here inside T index count =
     Telling T (inferred_of_signal (signal_by stage index))
 
 -- the open part that a frame stands for, in a room and at an offset
-abbrev pub open_part : (C : Table) (room here : ℕ) (f : Frame) → OpenPart
+abbrev pub open_part : (C : Table) (depth_left offset_in_message : ℕ) (frame : Frame) → OpenPart
 open_part C room here f = part_as f.told here f.inside (tree_at C room f.of.0) f.index f.count
 
 -- the open parts that frames stand for, the outermost first; each leaves one level of room less
-abbrev pub parts_in_room : (C : Table) (room here : ℕ) (frames : List Frame) → List OpenPart
+abbrev pub parts_in_room : (C : Table) (depth_left offset_in_message : ℕ) (frames : List Frame) →
+    List OpenPart
 parts_in_room C room here [] = []
 parts_in_room C room here (f ∷ frames) =
     open_part C room here f ∷ parts_in_room C (pred room) here frames
 
 -- the same in the room of a whole value
-abbrev pub open_parts : (C : Table) (here : ℕ) (frames : List Frame) → List OpenPart
+abbrev pub open_parts : (C : Table) (offset_in_message : ℕ) (frames : List Frame) → List OpenPart
 open_parts C here frames = parts_in_room C 24 here frames
 
 -- the tree of a type within these frames, in the room that they leave
-abbrev pub tree_in : (C : Table) (frames : List Frame) (of : ℕ) → Ty
+abbrev pub tree_in : (C : Table) (frames : List Frame) (type_index : ℕ) → Ty
 tree_in C frames of = tree_at C (24 - length frames) of
 
 -- a shape of which one part is read, so that its frames have no count
@@ -107,22 +110,24 @@ IsUncounted shapes.Led = Unit {0}
 IsUncounted s = ⊥
 
 -- an index and a count of an encapsulation, or of another type
-abbrev pub FrameIndexFits : (order : Option Order) (index count : ℕ) (T : Ty) → Type 0
+abbrev pub FrameIndexFits : (encapsulation_order : Option Order)
+    (index_or_octets_taken count_of_parts_or_octets : ℕ) (T : Ty) → Type 0
 FrameIndexFits None index count T = HasIndex (shape_in T) index × (IsEncapsulation T → ⊥)
     × (IsUncounted (shape_in T) → count ≡ 0)
 FrameIndexFits (Some order) index count T = IsEncapsulation T × (0 < index) × (index ≤ count)
 
 -- the same, or of a type whose first part tells what comes after it
-abbrev pub FrameIndexFitsAs : (stage : Option Stage) (inside : Option Order) (index count : ℕ)
-    (T : Ty) → Type 0
+abbrev pub FrameIndexFitsAs : (telling_stage : Option Stage) (encapsulation_order : Option Order)
+    (index_or_octets_taken count_of_parts_or_octets : ℕ) (T : Ty) → Type 0
 FrameIndexFitsAs None inside index count T = FrameIndexFits inside index count T
 FrameIndexFitsAs (Some stage) inside index count T = IsLed T × (inside ≡ None) × (count ≡ 0)
 
 -- a frame of a type of the table, which has a part with that index in any room; a union has no
 -- count
-pub record IsKnown (C : Table) (f : Frame) : Type 0 where
-  pub known : f.of.0 < length C.types
-  pub within : (room : ℕ) → FrameIndexFitsAs f.told f.inside f.index f.count (tree_at C room f.of.0)
+pub record IsKnown (C : Table) (frame : Frame) : Type 0 where
+  pub known : frame.of.0 < length C.types
+  pub within : (room : ℕ) → FrameIndexFitsAs frame.told frame.inside frame.index frame.count
+      (tree_at C room frame.of.0)
 
 -- frames of types of the table
 abbrev pub AreKnown : (C : Table) (frames : List Frame) → Type 0
@@ -137,34 +142,37 @@ HaveOctetsLeft frames = AllByRecursion HasOctetsLeft frames
 
 -- an offset that a frame may be at: it is no less than the number of octets that were taken of an
 -- encapsulation
-abbrev pub StandsAt : (here : ℕ) (f : Frame) → Type 0
+abbrev pub StandsAt : (offset_in_message : ℕ) (frame : Frame) → Type 0
 StandsAt here f = IfSome f.inside (λ order. f.index ≤ here)
 
-abbrev pub StandAt : (here : ℕ) (frames : List Frame) → Type 0
+abbrev pub StandAt : (offset_in_message : ℕ) (frames : List Frame) → Type 0
 StandAt here frames = AllByRecursion (StandsAt here) frames
 
 -- which part is being read: an encapsulation has one, and a part that tells what comes after it is
 -- the first
-abbrev pub part_index : (stage : Option Stage) (inside : Option Order) (index : ℕ) → ℕ
+abbrev pub part_index : (telling_stage : Option Stage) (encapsulation_order : Option Order)
+    (frame_index : ℕ) → ℕ
 part_index None None index = index
 part_index None (Some order) index = 0
 part_index (Some stage) inside index = 0
 
 -- each frame is for the part that the one before it is at, from the root, which has this room, to
 -- the innermost part
-abbrev pub LinkIn : (C : Table) (room root : ℕ) (frames : List Frame) (inner : ℕ) → Type 0
+abbrev pub LinkIn : (C : Table) (depth_left root_type_index : ℕ) (frames : List Frame)
+    (innermost_type_index : ℕ) → Type 0
 LinkIn C room root [] inner = inner ≡ root
 LinkIn C room root (f ∷ frames) inner = (f.of.0 ≡ root)
     × LinkIn C (pred room)
     (part_number_in C (pred room) root (part_index f.told f.inside f.index)) frames inner
 
 -- the same in the room of a whole value
-abbrev pub Link : (C : Table) (root : ℕ) (frames : List Frame) (inner : ℕ) → Type 0
+abbrev pub Link : (C : Table) (root_type_index : ℕ) (frames : List Frame)
+    (innermost_type_index : ℕ) → Type 0
 Link C root frames inner = LinkIn C 24 root frames inner
 
 -- a type that begins with its first part: how many parts it has, or that the first one tells what
 -- comes after it
-abbrev pub StartsWithPart : (T : Ty) (count : ℕ) (told : Option Stage) → Type 0
+abbrev pub StartsWithPart : (T : Ty) (part_count : ℕ) (telling_stage : Option Stage) → Type 0
 StartsWithPart (Struct n names parts) count told = (count ≡ n) × (told ≡ None)
 StartsWithPart (Array n T) count told = (count ≡ n) × (told ≡ None)
 StartsWithPart (Led h F parts) count told = (count ≡ 0) × (told ≡ Some stages.Untold)
@@ -173,7 +181,7 @@ StartsWithPart T count told = ⊥
 -- ---- the innermost part
 
 -- the leaf that an innermost part of a type stands for, with the octets that are held
-abbrev pub leaf_by : (T : Ty) (innermost : Innermost) (carry piece : List ℕ) → Leaf
+abbrev pub leaf_by : (T : Ty) (innermost : Innermost) (held_of_number held_of_piece : List ℕ) → Leaf
 leaf_by T (innermost.Number of) carry piece = LeadingNumber T carry
 leaf_by T (innermost.Opening of count) carry piece = Opening T (count - 1)
 leaf_by T (innermost.Content of total offset) carry piece = Content T total offset piece
@@ -185,12 +193,13 @@ leaf_type (innermost.Opening of left) = of.0
 leaf_type (innermost.Content of total offset) = of.0
 
 -- the same within these frames
-abbrev pub leaf_of : (C : Table) (frames : List Frame) (leaf : Innermost) (carry piece : List ℕ) →
-    Leaf
+abbrev pub leaf_of : (C : Table) (frames : List Frame) (leaf : Innermost)
+    (held_of_number held_of_piece : List ℕ) → Leaf
 leaf_of C frames leaf carry piece = leaf_by (tree_in C frames (leaf_type leaf)) leaf carry piece
 
 -- what is held is empty, apart from the octets of a number or of a content
-abbrev pub HoldsOnlyItsOwn : (innermost : Innermost) (carry piece : List ℕ) → Type 0
+abbrev pub HoldsOnlyItsOwn : (innermost : Innermost) (held_of_number held_of_piece : List ℕ) →
+    Type 0
 HoldsOnlyItsOwn (innermost.Number of) carry piece = piece ≡ []
 HoldsOnlyItsOwn (innermost.Opening of count) carry piece = (carry ≡ []) × (piece ≡ []) × (0 < count)
 HoldsOnlyItsOwn (innermost.Content of total offset) carry piece = carry ≡ []
@@ -198,7 +207,8 @@ HoldsOnlyItsOwn (innermost.Content of total offset) carry piece = carry ≡ []
 -- ---- the ends of encapsulations
 
 -- whether an encapsulation has ended, by its index and its count
-abbrev pub encapsulation_ended : (order : Option Order) (index count : ℕ) → Bool
+abbrev pub encapsulation_ended : (encapsulation_order : Option Order)
+    (octets_taken encapsulation_size : ℕ) → Bool
 encapsulation_ended None index count = false
 encapsulation_ended (Some order) index count = eqb index count
 
@@ -220,7 +230,7 @@ any_tells frames = list_any (λ f. is_some_stage f.told) frames
 
 -- what frames ask of each octet, by whether one of them tells what comes after it, and whether one
 -- is that of an encapsulation
-abbrev pub within_by : (tells holds : Bool) → Within
+abbrev pub within_by : (any_tells_what_follows any_is_an_encapsulation : Bool) → Within
 within_by true holds = withins.Telling
 within_by false true = withins.Encapsulation
 within_by false false = withins.Nothing
@@ -230,12 +240,12 @@ abbrev pub within_of : (frames : List Frame) → Within
 within_of frames = within_by (any_tells frames) (any_is_encapsulation frames)
 
 -- what frames ask of each octet after one more frame, by whether that one tells what comes after it
-abbrev pub within_after_frame : (tells : Bool) (within : Within) → Within
+abbrev pub within_after_frame : (frame_tells_what_follows : Bool) (within_before : Within) → Within
 within_after_frame true within = withins.Telling
 within_after_frame false within = within
 
 -- what frames ask of each octet after one more encapsulation
-abbrev pub within_after_encapsulation : (within : Within) → Within
+abbrev pub within_after_encapsulation : (within_before : Within) → Within
 within_after_encapsulation withins.Telling = withins.Telling
 within_after_encapsulation within = withins.Encapsulation
 
@@ -248,7 +258,7 @@ IsAtMost withins.Telling withins.Telling = Unit {0}
 IsAtMost withins.Telling most = ⊥
 
 -- the index of a frame after one more octet: only an encapsulation counts its octets
-abbrev pub index_after_octet : (order : Option Order) (index : ℕ) → ℕ
+abbrev pub index_after_octet : (encapsulation_order : Option Order) (frame_index : ℕ) → ℕ
 index_after_octet None index = index
 index_after_octet (Some order) index = index + 1
 
@@ -267,12 +277,13 @@ abbrev pub frames_after_octet : (frames : List Frame) → List Frame
 frames_after_octet frames = map frame_after_octet frames
 
 -- the index of a frame after `count` more octets
-abbrev pub index_after_octets : (count : ℕ) (order : Option Order) (index : ℕ) → ℕ
+abbrev pub index_after_octets : (octet_count : ℕ) (encapsulation_order : Option Order)
+    (frame_index : ℕ) → ℕ
 index_after_octets count None index = index
 index_after_octets count (Some order) index = index + count
 
 -- a frame after `count` more octets
-abbrev pub frame_after_octets : (count : ℕ) (f : Frame) → Frame
+abbrev pub frame_after_octets : (octet_count : ℕ) (frame : Frame) → Frame
 frame_after_octets n f = record {
   of = f.of;
   index = index_after_octets n f.inside f.index;
@@ -282,18 +293,18 @@ frame_after_octets n f = record {
 }
 
 -- `count` more octets in each encapsulation
-abbrev pub frames_after_octets : (count : ℕ) (frames : List Frame) → List Frame
+abbrev pub frames_after_octets : (octet_count : ℕ) (frames : List Frame) → List Frame
 frames_after_octets count frames = map (frame_after_octets count) frames
 
 -- what a frame has told after a sign, and the number that belongs to that
-abbrev pub stage_after_sign : (C : Table) (sign : Sign) (of : ℕ) (stage : Option Stage)
-    (index : ℕ) → Option Stage
+abbrev pub stage_after_sign : (C : Table) (sign : Sign) (type_index : ℕ)
+    (stage_before : Option Stage) (stage_number_before : ℕ) → Option Stage
 stage_after_sign C sign of None index = None
 stage_after_sign C sign of (Some stage) index =
     Some (stage_of (signal_after C of (signal_by stage index) sign))
 
-abbrev pub number_after_sign : (C : Table) (sign : Sign) (of : ℕ) (stage : Option Stage)
-    (index : ℕ) → ℕ
+abbrev pub number_after_sign : (C : Table) (sign : Sign) (type_index : ℕ)
+    (stage_before : Option Stage) (stage_number_before : ℕ) → ℕ
 number_after_sign C sign of None index = index
 number_after_sign C sign of (Some stage) index =
     number_of (signal_after C of (signal_by stage index) sign)
@@ -311,13 +322,13 @@ frame_after_sign C sign f = record {
 abbrev pub frames_after_sign : (C : Table) (sign : Sign) (frames : List Frame) → List Frame
 frames_after_sign C sign frames = map (frame_after_sign C sign) frames
 
-abbrev pub coding_in_frame : (outer_coding : Order × ℕ) (order : Option Order) (index : ℕ) →
-    Order × ℕ
+abbrev pub coding_in_frame : (outer_coding : Order × ℕ) (encapsulation_order : Option Order)
+    (octets_taken : ℕ) → Order × ℕ
 coding_in_frame c None index = c
 coding_in_frame c (Some order) index = (order, index % 8)
 
 -- the byte order of the innermost part, and the phase modulo 8 by which its numbers are aligned
-abbrev pub innermost_coding : (order : Order) (at : ℕ) (frames : List Frame) → Order × ℕ
+abbrev pub innermost_coding : (order : Order) (phase_mod_8 : ℕ) (frames : List Frame) → Order × ℕ
 innermost_coding order at [] = (order, at)
 innermost_coding order at (f ∷ frames) = (let c = coding_in_frame (order, at) f.inside f.index in
     innermost_coding c.0 c.1 frames)
@@ -327,15 +338,15 @@ abbrev pub any_encapsulation_ended : (frames : List Frame) → Bool
 any_encapsulation_ended frames = list_any (λ f. encapsulation_ended f.inside f.index f.count) frames
 
 -- an innermost part that goes on within these frames, unless one of them has ended
-abbrev pub short_unless_ended : (C : Table) (lines : List ValueAt) (at : ℕ) (frames : List Frame)
-    (leaf : Leaf) → Read
+abbrev pub short_unless_ended : (C : Table) (lines : List ValueAt) (offset_reached : ℕ)
+    (frames : List Frame) (leaf : Leaf) → Read
 short_unless_ended C lines at frames leaf =
     cond (any_encapsulation_ended frames) (Fault lines at kinds.EncapShort (type_at_cut leaf))
     (Short lines at (open_parts C at frames) leaf)
 
 -- the reading after a part has ended at this offset, from the innermost part that comes next
-abbrev pub read_from_next_leaf : (C : Table) (at : ℕ) (outer : List Frame)
-    (leaf : Option Innermost) → Read
+abbrev pub read_from_next_leaf : (C : Table) (offset_reached : ℕ) (frames_left : List Frame)
+    (next_leaf : Option Innermost) → Read
 read_from_next_leaf C at outer None = Done [] at []
 read_from_next_leaf C at outer (Some leaf) = short_unless_ended C [] at outer
     (leaf_of C outer leaf [] [])
@@ -344,15 +355,15 @@ read_from_next_leaf C at outer (Some leaf) = short_unless_ended C [] at outer
 
 -- the reading after the count of a recursive sequence's elements, which is at least 1; they may
 -- have room or not
-abbrev pub after_recursive_count : (T : Ty) (fits : Bool) (count : ℕ) (lines : List ValueAt)
-    (at : ℕ) → Read
+abbrev pub after_recursive_count : (T : Ty) (elements_have_room : Bool) (element_count : ℕ)
+    (lines : List ValueAt) (offset_after_count : ℕ) → Read
 after_recursive_count T true count lines at =
     Short lines at (Part T 0 count ∷ start_outer (part_of T 0)) (start_leaf (part_of T 0))
 after_recursive_count T false count lines at = Fault lines at kinds.Untyped T
 
 -- the reading of an innermost part after a transition, with these lines at this offset
-abbrev pub after_transition : (T : Ty) (transition : Transition) (carry piece : List ℕ)
-    (lines : List ValueAt) (at : ℕ) → Read
+abbrev pub after_transition : (T : Ty) (transition : Transition)
+    (held_of_number held_of_piece : List ℕ) (lines : List ValueAt) (offset_after_octet : ℕ) → Read
 after_transition T (transitions.More leaf) carry piece lines at =
     Short lines at [] (leaf_by T leaf carry piece)
 after_transition T transitions.Ended carry piece lines at = Done lines at []
@@ -369,7 +380,7 @@ after_transition T (transitions.Entered order count) carry piece lines at =
 after_transition T (transitions.Refused kind) carry piece lines at = Fault lines at kind T
 
 -- what a transition does, if the elements of a recursive sequence have room or not
-abbrev pub resolve_recursion : (transition : Transition) (fits : Bool) → Transition
+abbrev pub resolve_recursion : (transition : Transition) (elements_have_room : Bool) → Transition
 resolve_recursion (transitions.Recursed count) true = transitions.Opened count
 resolve_recursion (transitions.Recursed count) false = transitions.Stopped
 resolve_recursion transition fits = transition
@@ -380,8 +391,8 @@ IsRecursionResolved (transitions.Recursed count) = ⊥
 IsRecursionResolved transition = Unit {0}
 
 -- parts come only if there are some, and an innermost part that goes on has the same type
-abbrev pub TransitionFits : (T : Ty) (of : ℕ) (transition : Transition) (carry piece : List ℕ) →
-    Type 0
+abbrev pub TransitionFits : (T : Ty) (type_index : ℕ) (transition : Transition)
+    (held_of_number held_of_piece : List ℕ) → Type 0
 TransitionFits T of (transitions.More leaf) carry piece =
     (leaf_type leaf ≡ of) × HoldsOnlyItsOwn leaf carry piece
 TransitionFits T of (transitions.Opened count) carry piece = HasParts T count × (0 < count)
@@ -392,7 +403,8 @@ TransitionFits T of (transitions.Refused kind) carry piece = BreaksRule kind
 TransitionFits T of transition carry piece = Unit {0}
 
 -- nothing is held after the transition, unless the innermost part goes on or breaks a rule
-abbrev pub HoldsNothingAfter : (transition : Transition) (carry piece : List ℕ) → Type 0
+abbrev pub HoldsNothingAfter : (transition : Transition) (held_of_number held_of_piece : List ℕ) →
+    Type 0
 HoldsNothingAfter (transitions.More leaf) carry piece = Unit {0}
 HoldsNothingAfter (transitions.Refused kind) carry piece = Unit {0}
 HoldsNothingAfter transition carry piece = (carry ≡ []) × (piece ≡ [])
@@ -407,7 +419,7 @@ pub record IsNumberOf (T : Ty) (number : Taken) : Type 0 where
   pub within : n < 256 ^ width scalar
 
 -- the name of a union's discriminator, if it has one
-abbrev pub tag_in : Ty → Option (List ℕ)
+abbrev pub tag_in : (union : Ty) → Option (List ℕ)
 tag_in (Union choice scalar select names cases) = discriminator_name choice scalar names
 tag_in T = None
 
@@ -416,8 +428,8 @@ switch_segment T = Switch (tag_in T)
 
 -- the line of an octet, if it has one; a piece has these octets, those that are held and those
 -- ahead
-abbrev pub IsOutput : (T : Ty) (path : List PathSegment) (at : ℕ) (output : Output) (piece : List ℕ)
-    (lines : List ValueAt) → Type 0
+abbrev pub IsOutput : (T : Ty) (path : List PathSegment) (offset_after_octet : ℕ) (output : Output)
+    (piece_octets : List ℕ) (lines : List ValueAt) → Type 0
 IsOutput T path at outputs.Nothing piece lines = lines ≡ []
 IsOutput T path at outputs.Length piece lines = lines ≡ []
 IsOutput T path at (outputs.Number number) piece lines =
@@ -432,7 +444,7 @@ IsOutput T path at (outputs.Piece offset more) piece lines =
     lines ≡ line at path (Piece T offset piece more) ∷ []
 
 -- what is held of a piece after that line: a piece that was written is no longer held
-abbrev pub held_after_output : (output : Output) (piece : List ℕ) → List ℕ
+abbrev pub held_after_output : (output : Output) (held_of_piece : List ℕ) → List ℕ
 held_after_output (outputs.Piece offset more) piece = []
 held_after_output output piece = piece
 
@@ -446,11 +458,12 @@ HasOutput T output = Unit {0}
 -- the reading is that after this transition, with the line of this output; these octets are held
 -- until the line is written
 pub record TransitionGives (T : Ty) (transition : Transition) (output : Output)
-    (carry piece : List ℕ)
-    (path : List PathSegment) (at : ℕ) (read : Read) : Type 0 where
+    (held_of_number held_of_piece : List ℕ) (path : List PathSegment) (offset_after_octet : ℕ)
+    (read : Read) : Type 0 where
   pub lines : List ValueAt
-  pub comes : read ≡ after_transition T transition carry (held_after_output output piece) lines at
-  pub says : IsOutput T path at output piece lines
+  pub comes : read ≡ after_transition T transition held_of_number
+      (held_after_output output held_of_piece) lines offset_after_octet
+  pub says : IsOutput T path offset_after_octet output held_of_piece lines
 
 -- what is wrong if a bound is exceeded
 abbrev pub bound_fault_if : (is_over : Bool) → Option ValueFault
@@ -463,33 +476,36 @@ enum_fault_if true = Some kinds.Enum
 enum_fault_if false = None
 
 -- the octets of a block, all of them or a part
-abbrev pub block_of : (is_whole : Bool) (held : List ℕ) (at : ℕ) → Block
+abbrev pub block_of : (is_whole : Bool) (octets_held : List ℕ) (offset_after_octets : ℕ) → Block
 block_of true held at = Complete held at []
 block_of false held at = Partial held at
 
--- `count` octets at the front of others, the first of which has this phase modulo 8, belong to a
--- number of this width, some of whose octets are held, or to the padding before it. They are held
+-- `octet_count` octets at the front of others, the first of which has this phase modulo 8, belong to
+-- a number of this width, some of whose octets are held, or to the padding before it. They are held
 -- until the last of them comes, after which the number is whole or not.
-pub record BelongToNumber (width at : ℕ) (carry octets : List ℕ) (count : ℕ) (whole : Bool)
-    (all : List ℕ) : Type 0 where
-  pub some : 0 < count
-  pub within : count ≤ length octets
+pub record BelongToNumber (width first_phase_mod_8 : ℕ) (value_octets_held octets : List ℕ)
+    (octet_count : ℕ) (is_number_whole : Bool) (value_octets_held_after : List ℕ) : Type 0 where
+  pub some : 0 < octet_count
+  pub within : octet_count ≤ length octets
   pub held : List ℕ
-  pub are_held : LeavesNumberIncomplete width at carry (take (count - 1) octets) held
-  pub last : (phase : ℕ → ℕ) (here : ℕ) → phase here % 8 ≡ (at + (count - 1)) % 8 →
-      number_step phase width here held (get_or octets (count - 1) 0)
-      ≡ block_of whole all (here + 1)
+  pub are_held : LeavesNumberIncomplete width first_phase_mod_8 value_octets_held
+      (take (octet_count - 1) octets) held
+  pub last : (phase : ℕ → ℕ) (here : ℕ) → phase here % 8
+      ≡ (first_phase_mod_8 + (octet_count - 1)) % 8 →
+      number_step phase width here held (get_or octets (octet_count - 1) 0)
+      ≡ block_of is_number_whole value_octets_held_after (here + 1)
 
 -- a number of four octets, all of which come at the front of these
-pub record IsWholeLong (order : Order) (at : ℕ) (octets : List ℕ) (count n : ℕ) : Type 0 where
+pub record IsWholeLong (order : Order) (first_phase_mod_8 : ℕ) (octets : List ℕ)
+    (octet_count long_value : ℕ) : Type 0 where
   pub all : List ℕ
-  pub stands : BelongToNumber 4 at [] octets count true all
-  pub spelled : n ≡ num order all
+  pub stands : BelongToNumber 4 first_phase_mod_8 [] octets octet_count true all
+  pub spelled : long_value ≡ num order all
 
 -- a number of a type, all of whose octets come at the front of these
-pub record IsWholeNumber (T : Ty) (order : Order) (at : ℕ) (octets : List ℕ) (count : ℕ)
-    (number : Taken) : Type 0 where
+pub record IsWholeNumber (T : Ty) (order : Order) (first_phase_mod_8 : ℕ) (octets : List ℕ)
+    (octet_count : ℕ) (number : Taken) : Type 0 where
   pub all : List ℕ
-  pub stands : BelongToNumber (leading_width T) at [] octets count true all
+  pub stands : BelongToNumber (leading_width T) first_phase_mod_8 [] octets octet_count true all
   pub is : IsNumberOf T number
   pub spelled : is.n ≡ num order all

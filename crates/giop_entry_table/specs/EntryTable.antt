@@ -10,13 +10,13 @@ pub record Entries (V : Type 0) : Type 0 where
   pub entries : List (Entry V)
 
 -- an entry is stored as the pair of its fields
-abbrev pub entry_code : {V : Type 0} → Coded V → Coded (Entry V)
+abbrev pub entry_code : {V : Type 0} → (value_code : Coded V) → Coded (Entry V)
 entry_code {V} code =
     code_by (ℕ × V) (coded× coded_ℕ code) (λ e. (e.key, e.value))
     (λ p. record { key = p.0; value = p.1 }) (λ _. refl)
 
 -- a table is stored as the pair of its fields
-abbrev pub entries_code : {V : Type 0} → Coded V → Coded (Entries V)
+abbrev pub entries_code : {V : Type 0} → (value_code : Coded V) → Coded (Entries V)
 entries_code {V} code =
     code_by (ℕ × List (Entry V)) (coded× coded_ℕ (coded_list (entry_code code)))
     (λ r. (r.most, r.entries)) (λ p. record { most = p.0; entries = p.1 }) (λ _. refl)
@@ -29,5 +29,5 @@ module _ {V : Type 0} where
   replace_value (e ∷ es) (suc index) value = e ∷ replace_value es index value
 
   -- the table after the entry at this index got this value
-  abbrev pub with_value : (r : Entries V) (index : ℕ) (value : V) → Entries V
+  abbrev pub with_value : (table : Entries V) (index : ℕ) (value : V) → Entries V
   with_value r index value = record r { entries = replace_value r.entries index value }

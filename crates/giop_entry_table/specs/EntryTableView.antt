@@ -13,7 +13,7 @@ module _ {V : Type 0} where
   prepend_entry_if_some key (Some value) rest = record { key = key; value = value } ∷ rest
 
   -- the entry of each id, with the value that the slab has under its number
-  abbrev pub entries_of : (values : Slab V) (keys numbers : List ℕ) → List (Entry V)
+  abbrev pub entries_of : (values : Slab V) (keys slab_numbers : List ℕ) → List (Entry V)
   entries_of values [] numbers = []
   entries_of values (key ∷ keys) [] = []
   entries_of values (key ∷ keys) (number ∷ numbers) =
@@ -21,11 +21,11 @@ module _ {V : Type 0} where
 
   -- each id has a number of its own, under which the slab has a value, and the slab has no other
   -- value
-  pub record MatchesSlab (keys numbers : List ℕ) (values : Slab V) : Type 0 where
-    pub as_many : length keys ≡ length numbers
-    pub distinct : IsDistinct eqb numbers
-    pub held : Each (λ number. IsSome (get values number)) numbers
-    pub counted : slab_len values ≡ length numbers
+  pub record MatchesSlab (keys slab_numbers : List ℕ) (values : Slab V) : Type 0 where
+    pub as_many : length keys ≡ length slab_numbers
+    pub distinct : IsDistinct eqb slab_numbers
+    pub held : Each (λ number. IsSome (get values number)) slab_numbers
+    pub counted : slab_len values ≡ length slab_numbers
 
   -- there is room for this number of entries without more memory
   pub record HasRoom (most id_capacity number_capacity : ℕ) (values : Slab V) : Type 0 where

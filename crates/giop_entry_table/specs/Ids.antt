@@ -5,17 +5,18 @@ use Rattle.std.specs.Prelude.{◌≡◌, ◌==◌, ◌<◌, ◌≤◌, ◌^◌, 
 use Rattle.std.specs.List.{count_by}
 
 -- minus the removals, the number is at most the index of each id that has this remainder
-abbrev pub IsLowerBound : (keys : List ℕ) (divisor removals remainder first : ℕ) → Type 0
+abbrev pub IsLowerBound : (keys : List ℕ)
+    (divisor removals remainder index_bound_with_removals : ℕ) → Type 0
 IsLowerBound keys divisor removals remainder first =
     (i : ℕ) → i < length keys → get_or keys i 0 % divisor ≡ remainder → first ≤ i + removals
 
 -- for each remainder: how many ids have it, and an index before which none of them is
-pub record AreIndexedByRemainder (divisor : ℕ) (keys counts firsts : List ℕ)
-    (removals : ℕ) : Type 0 where
-  pub counts_many : length counts ≡ divisor
-  pub firsts_many : length firsts ≡ divisor
+pub record AreIndexedByRemainder (divisor : ℕ)
+    (keys counts_by_remainder firsts_by_remainder : List ℕ) (removals : ℕ) : Type 0 where
+  pub counts_many : length counts_by_remainder ≡ divisor
+  pub firsts_many : length firsts_by_remainder ≡ divisor
   pub counted : (r : ℕ) → r < divisor →
-      get_or counts r 0 ≡ count_by (λ k. k % divisor == r) keys
+      get_or counts_by_remainder r 0 ≡ count_by (λ k. k % divisor == r) keys
   pub before : (r : ℕ) → r < divisor →
-      IsLowerBound keys divisor removals r (get_or firsts r 0)
-  pub range : (r : ℕ) → r < divisor → get_or firsts r 0 < 2 ^ 64
+      IsLowerBound keys divisor removals r (get_or firsts_by_remainder r 0)
+  pub range : (r : ℕ) → r < divisor → get_or firsts_by_remainder r 0 < 2 ^ 64

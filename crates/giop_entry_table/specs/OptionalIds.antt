@@ -15,13 +15,13 @@ is_id id None = false
 is_id id (Some key) = key == id
 
 -- an entry is stored as the pair of its fields
-abbrev pub entry_code : {V : Type 0} → Coded V → Coded (OptionalIdEntry V)
+abbrev pub entry_code : {V : Type 0} → (value_code : Coded V) → Coded (OptionalIdEntry V)
 entry_code {V} code =
     code_by (Option ℕ × V) (coded× (coded_option coded_ℕ) code) (λ e. (e.key, e.value))
     (λ p. record { key = p.0; value = p.1 }) (λ _. refl)
 
 -- a table is stored as the pair of its fields
-abbrev pub entries_code : {V : Type 0} → Coded V → Coded (OptionalIdEntries V)
+abbrev pub entries_code : {V : Type 0} → (value_code : Coded V) → Coded (OptionalIdEntries V)
 entries_code {V} code =
     code_by (ℕ × List (OptionalIdEntry V)) (coded× coded_ℕ (coded_list (entry_code code)))
     (λ r. (r.most, r.entries)) (λ p. record { most = p.0; entries = p.1 }) (λ _. refl)
@@ -36,5 +36,6 @@ module _ {V : Type 0} where
   replace_value (e ∷ es) (suc index) value = e ∷ replace_value es index value
 
   -- the table after the entry at this index got this value
-  abbrev pub with_value : (r : OptionalIdEntries V) (index : ℕ) (value : V) → OptionalIdEntries V
+  abbrev pub with_value : (table : OptionalIdEntries V) (index : ℕ) (value : V) →
+      OptionalIdEntries V
   with_value r index value = record r { entries = replace_value r.entries index value }

@@ -8,5 +8,5 @@ use Rattle.giop_entry_table.specs.contracts.optional_ids.OptionalIdTable.{the_ro
 module _ (V : RattleType) (r : MutBor (OptionalIdEntries V.Denot)) (index : ℕ) where
   -- after the borrow x ends, the entry at this index has the last value written through x; if x is
   -- `None`, the table stays as it is
-  abbrev pub lends_get : Option (MutBor V.Denot) → Fml
+  abbrev pub lends_get : (value_borrow : Option (MutBor V.Denot)) → Fml
   lends_get x = LendsIf (the_row V) V r x (with_value r.now index) r.now

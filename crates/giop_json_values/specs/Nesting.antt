@@ -11,6 +11,6 @@ is_list shapes.Encapsulation = false
 
 -- the ends of open objects and lists, the innermost first; in the list of these the outermost is
 -- first
-abbrev pub closing_tokens : (shapes : List Shape) → List Token
+abbrev pub closing_tokens : (open_shapes_outermost_first : List Shape) → List Token
 closing_tokens [] = []
 closing_tokens (s ∷ ss) = closing_tokens ss ++ ((if is_list s then end_array else end_object) ∷ [])

@@ -19,12 +19,12 @@ use Rattle.giop_lines.specs.Paths.{IsPath}
 use Rattle.giop_lines.specs.Values.{value_text, IsValue}
 
 -- a word and a number, if there is one
-abbrev pub word_with_number : (word : List ℕ) (number : Option ℕ) → List ℕ
+abbrev pub word_with_number : (word : List ℕ) (number_or_nothing : Option ℕ) → List ℕ
 word_with_number word None = []
 word_with_number word (Some number) = word ++ decimal number
 
 -- a space and a name, if there is one
-abbrev pub spaced_name : (name : Option (Bor (List ℕ))) → List ℕ
+abbrev pub spaced_name : (name_or_nothing : Option (Bor (List ℕ))) → List ℕ
 spaced_name None = []
 spaced_name (Some name) = codes " " ++ name.now
 
@@ -89,7 +89,7 @@ statement_text (said.CaptureTotal t) = capture_text t
 statement_text (said.Later text) = text.now
 
 -- the text with a letter and a number before it; the number is left out if it is 0
-abbrev pub prefixed_by_number : (letter : List ℕ) (number : ℕ) (rest : List ℕ) → List ℕ
+abbrev pub prefixed_by_number : (letter : List ℕ) (number_unless_0 : ℕ) (rest : List ℕ) → List ℕ
 prefixed_by_number letter zero rest = rest
 prefixed_by_number letter (suc number) rest =
     letter ++ (decimal (suc number) ++ (codes " " ++ rest))
@@ -99,12 +99,12 @@ line_text l = prefixed_by_number (codes "s") l.stream
     (prefixed_by_number (codes "m") l.message (statement_text l.said))
 
 -- a message type: a word, or a number
-abbrev pub IsTypeWordOrNumber : (kind : List ℕ) → Type 0
+abbrev pub IsTypeWordOrNumber : (message_type : List ℕ) → Type 0
 IsTypeWordOrNumber kind = (is_message_type_word kind ≡ true) ⊎ ((n : ℕ) × (n < 256) × (kind ≡
     decimal n))
 
 -- two numbers that aren't 0, if they are there
-abbrev pub AreNonzero : (pair : Option ℕ × Option ℕ) → Type 0
+abbrev pub AreNonzero : (numbers_if_any : Option ℕ × Option ℕ) → Type 0
 AreNonzero pair = IfSome pair.0 (λ n. 0 < n) × IfSome pair.1 (λ n. 0 < n)
 
 -- what the fields of a line may be, beyond the ranges of their numbers

@@ -25,7 +25,7 @@ is_name_octet octet = is_lower_case octet || is_upper_case octet || is_decimal_d
     || octet == 95
 
 -- a small letter, a digit, a point or a hyphen
-abbrev pub is_word_octet : (octet : ℕ) → Bool
+abbrev pub is_word_octet : (octet_of_fault_word : ℕ) → Bool
 is_word_octet octet = is_lower_case octet || is_decimal_digit octet || octet == 46 || octet == 45
 
 -- whether this is the name of an operation or interface, or a repository id
@@ -39,12 +39,12 @@ is_member_name name = nat_lt 0 (length name) && nat_le (length name) 64
     && not (is_decimal_digit (slice_index name 0)) && list_all is_name_octet name
 
 -- whether this is the word of a fault, or of a stream's end
-abbrev pub is_fault_or_closing_word : (word : List ℕ) → Bool
+abbrev pub is_fault_or_closing_word : (lower_case_initial_word : List ℕ) → Bool
 is_fault_or_closing_word word = nat_lt 0 (length word) && is_lower_case (slice_index word 0)
     && list_all is_word_octet word
 
 -- whether this is the word of a message type
-abbrev pub is_message_type_word : (word : List ℕ) → Bool
+abbrev pub is_message_type_word : (upper_case_initial_word : List ℕ) → Bool
 is_message_type_word word = nat_lt 0 (length word) && is_upper_case (slice_index word 0)
     && list_all (λ b. is_lower_case b || is_upper_case b) word
 

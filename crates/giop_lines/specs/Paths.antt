@@ -11,7 +11,7 @@ part_text (Root word) = word.now
 part_text (Name name) = name_segment name.now
 part_text (Index index) = index_segment index
 
-abbrev pub IsRoot : (word : List ℕ) → Type 0
+abbrev pub IsRoot : (root_word : List ℕ) → Type 0
 IsRoot word = (word ≡ codes "header") ⊎ (word ≡ codes "exception") ⊎ (word ≡ codes "body")
 
 -- what the fields of a part may be
@@ -27,18 +27,19 @@ IsPartAfterRoot (Name name) = is_member_name name.now ≡ true
 IsPartAfterRoot (Index index) = index < 2 ^ 32
 
 -- whether a path ends here, or its next part begins here
-abbrev pub is_part_border : (rest : List ℕ) → Bool
+abbrev pub is_part_border : (path_rest : List ℕ) → Bool
 is_part_border [] = true
 is_part_border (b ∷ bs) = b == 46 || b == 91
 
 -- a path begins with this part, and this follows it
-pub record BeginsWithPart (path : List ℕ) (part : PathPart) (rest : List ℕ) : Type 0 where
+pub record BeginsWithPart (path : List ℕ) (part : PathPart) (path_rest : List ℕ) : Type 0 where
   pub is_part : IsPathPart part
-  pub border : is_part_border rest ≡ true
-  pub spelled : path ≡ part_text part ++ rest
+  pub border : is_part_border path_rest ≡ true
+  pub spelled : path ≡ part_text part ++ path_rest
 
 -- this is the first part of a path, if it has one
-abbrev pub IsFirstPart : (path : List ℕ) (first : Option (PathPart × Bor (List ℕ))) → Type 0
+abbrev pub IsFirstPart : (path : List ℕ) (first_part_and_rest : Option (PathPart × Bor (List ℕ))) →
+    Type 0
 IsFirstPart path first = IfSome first (λ f. BeginsWithPart path f.0 f.1.now)
 
 -- the path is a root and at most 24 parts

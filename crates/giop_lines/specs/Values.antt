@@ -27,7 +27,7 @@ abbrev pub spaced_digits : (digits : List ℕ) → List ℕ
 spaced_digits [] = []
 spaced_digits (d ∷ ds) = codes " " ++ (d ∷ ds)
 
-abbrev pub content_text : (content : Content) (octets : List ℕ) → List ℕ
+abbrev pub content_text : (content : Content) (spelled_octets : List ℕ) → List ℕ
 content_text contents.Text octets = codes " " ++ in_quotes octets
 content_text contents.Octets octets = spaced_digits octets
 content_text contents.WideString octets = spaced_digits octets
@@ -66,11 +66,11 @@ value_text (values.Encapsulation n) = codes "encapsulation " ++ decimal n
 value_text (values.Order order) = codes "order " ++ order_word order
 value_text (values.Piece piece) = content_word piece.content ++ piece_text piece
 
-abbrev pub AreHexOctetsOrNone : (octets : List ℕ) → Type 0
+abbrev pub AreHexOctetsOrNone : (digits_or_empty : List ℕ) → Type 0
 AreHexOctetsOrNone octets = (octets ≡ []) ⊎ AreHexOctets octets
 
 -- what the octets of a piece may be
-abbrev pub AreOctetsOfContent : (content : Content) (octets : List ℕ) → Type 0
+abbrev pub AreOctetsOfContent : (content : Content) (spelled_octets : List ℕ) → Type 0
 AreOctetsOfContent contents.Text octets = IsEscapedText 32 octets
 AreOctetsOfContent contents.Octets octets = AreHexOctetsOrNone octets
 AreOctetsOfContent contents.WideString octets = AreHexOctetsOrNone octets

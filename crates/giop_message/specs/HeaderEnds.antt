@@ -22,7 +22,7 @@ pub data HeaderEnd : Type 0 where
 -- The marks of a message, from the octets that follow the 12 of `header`. They are the same with
 -- each table of each version, and whatever the ids answer; so they are defined by the built-in
 -- types of version 1 only.
-unfoldable pub marks : (phase : Phase) (header octets : List ℕ) → List Mark
+unfoldable pub marks : (phase : Phase) (header octets_after_header : List ℕ) → List Mark
 marks phase header octets =
     message_marks (read_message (signatures_of builtin_table (λ id. None) phase) header octets)
 
@@ -32,16 +32,16 @@ noted_in (HeaderMark n ∷ ms) = Some n
 noted_in (NameMark name ∷ ms) = noted_in ms
 
 -- what is noted of a message's header, if it is complete
-unfoldable pub header_noted : (phase : Phase) (header octets : List ℕ) → Option Noted
+unfoldable pub header_noted : (phase : Phase) (header octets_after_header : List ℕ) → Option Noted
 header_noted phase header octets = noted_in (marks phase header octets)
 
-abbrev pub header_end_at : (number : ℕ) (header : List ℕ) (mark : Mark) → HeaderEnd
+abbrev pub header_end_at : (message_number : ℕ) (header : List ℕ) (mark : Mark) → HeaderEnd
 header_end_at number header (HeaderMark n) = Header_end number header n
 header_end_at number header (NameMark name) = Exception_end number name
 
 -- what ends in more octets after these: the header, and the name of an exception
-unfoldable pub header_ends : (phase : Phase) (number : ℕ) (header octets more : List ℕ) →
-    List HeaderEnd
+unfoldable pub header_ends : (phase : Phase) (message_number : ℕ)
+    (header octets_before more_octets : List ℕ) → List HeaderEnd
 header_ends phase number header octets more = map (header_end_at number header)
     (drop (length (marks phase header octets)) (marks phase header (octets ++ more)))
 
@@ -59,34 +59,36 @@ pub data CallEvent : Type 0 where
   -- show it
   Raised : ℕ → List ℕ → CallEvent
 
-abbrev pub shown_name : (name : Option (List ℕ)) → Option (List ℕ)
+abbrev pub shown_name : (name_shown_if_graphic : Option (List ℕ)) → Option (List ℕ)
 shown_name None = None
 shown_name (Some name) = if is_graphic_name name then Some name else None
 
 -- If it isn't noted of a Request whether it expects a reply, it does: the reading of its header
 -- went on from a checkpoint that didn't store this.
-abbrev pub expects_reply : (expects : Option Bool) → Bool
+abbrev pub expects_reply : (noted_else_true : Option Bool) → Bool
 expects_reply None = true
 expects_reply (Some expects) = expects
 
-abbrev pub request_event : (number : ℕ) (id : Option ℕ) (name : Option (List ℕ))
-    (operation : Option OpId) (expects : Option Bool) → Option CallEvent
+abbrev pub request_event : (message_number : ℕ) (request_id : Option ℕ)
+    (operation_name : Option (List ℕ)) (operation : Option OpId)
+    (noted_expects_reply : Option Bool) → Option CallEvent
 request_event number None name operation expects = None
 request_event number (Some id) name operation expects =
     Some (Requested number id (shown_name name) operation (expects_reply expects))
 
-abbrev pub reply_event : (number : ℕ) (id : Option ℕ) → Option CallEvent
+abbrev pub reply_event : (message_number : ℕ) (request_id : Option ℕ) → Option CallEvent
 reply_event number None = None
 reply_event number (Some id) = Some (Replied number id)
 
 -- the operation that a Request names, if the table has it; other messages name none
-unfoldable pub operation_of : (C : Table) (header : List ℕ) (noted : Noted) → Option OpId
+unfoldable pub operation_of : (C : Table) (header_if_of_request : List ℕ) (noted : Noted) →
+    Option OpId
 operation_of C header n =
     if kind header == 0 then option_and_then (called_operation C n.key) n.name else None
 
 -- what a message's header says, from the message's number, what is noted of the header, and its
 -- operation
-unfoldable pub header_event : (number : ℕ) (header : List ℕ) (noted : Noted)
+unfoldable pub header_event : (message_number : ℕ) (header : List ℕ) (noted : Noted)
     (operation : Option OpId) →
     Option CallEvent
 header_event number header n operation =
@@ -95,7 +97,7 @@ header_event number header n operation =
     else None
 
 -- that a Reply raises an exception, from the Reply's number and the exception's name
-abbrev pub raise_event : (number : ℕ) (name : Option (List ℕ)) → Option CallEvent
+abbrev pub raise_event : (message_number : ℕ) (exception_name : Option (List ℕ)) → Option CallEvent
 raise_event number name = option_map (Raised number) (shown_name name)
 
 abbrev pub call_event : (C : Table) (end : HeaderEnd) → Option CallEvent
@@ -104,35 +106,36 @@ call_event C (Exception_end number name) = raise_event number (Some name)
 
 -- ---- the states of a correspondent: what each answers, and the one that follows an event
 
-abbrev pub after_event : {St : Type 0} (notified : St → CallEvent → St) (state : St)
-    (event : Option CallEvent) → St
+abbrev pub after_event : {St : Type 0} (state_after_call_event : St → CallEvent → St)
+    (state_before : St) (event_if_any : Option CallEvent) → St
 after_event notified state None = state
 after_event notified state (Some event) = notified state event
 
 -- the state after these ends, one after another
-abbrev pub after_ends : {St : Type 0} (notified : St → CallEvent → St) (C : Table) (state : St)
-    (ends : List HeaderEnd) → St
+abbrev pub after_ends : {St : Type 0} (state_after_call_event : St → CallEvent → St) (C : Table)
+    (state_before : St) (ends : List HeaderEnd) → St
 after_ends notified C state [] = state
 after_ends notified C state (e ∷ es) =
     after_ends notified C (after_event notified state (call_event C e))
     es
 
 -- If a header ends, the operations of its message are those that the state before this event gives.
-abbrev pub IsAnswered : {St : Type 0} (answer : St → Answer) (state : St) (answers : Answers)
-    (end : HeaderEnd) → Type 0
+abbrev pub IsAnswered : {St : Type 0} (answer_of_state : St → Answer) (state : St)
+    (answers_by_message : Answers) (end : HeaderEnd) → Type 0
 IsAnswered answer state a (Header_end number header n) = a number ≡ answer state
 IsAnswered answer state a (Exception_end number name) = Unit {0}
 
 -- each header that ends is answered so
-abbrev pub AgreesAtEnds : {St : Type 0} (answer : St → Answer) (notified : St → CallEvent → St)
-    (C : Table) (state : St) (answers : Answers) (ends : List HeaderEnd) → Type 0
+abbrev pub AgreesAtEnds : {St : Type 0} (answer_of_state : St → Answer)
+    (state_after_call_event : St → CallEvent → St) (C : Table) (state_before : St)
+    (answers_by_message : Answers) (ends : List HeaderEnd) → Type 0
 AgreesAtEnds answer notified C state a [] = Unit {0}
 AgreesAtEnds answer notified C state a (e ∷ es) =
     IsAnswered answer state a e × AgreesAtEnds answer notified C
     (after_event notified state (call_event C e)) a es
 
 -- the operation is one of the table
-abbrev pub IsKnownOperation : (C : Table) (operation : Option OpId) → Type 0
+abbrev pub IsKnownOperation : (C : Table) (operation_if_any : Option OpId) → Type 0
 IsKnownOperation C operation = IfSome operation (λ o. o.0 < length C.operations)
 
 abbrev pub HasKnownOperation : (C : Table) (event : CallEvent) → Type 0

@@ -61,7 +61,7 @@ pub record HasOnlyValuesInId (R : MessageReader) : Type 0 where
 
 -- the lines of one octet: none, a value, a value and its call, a part of the rest, a fault, or a
 -- value and a fault
-abbrev pub AreInLineOrder : (line_classes : List LineClass) → Type 0
+abbrev pub AreInLineOrder : (possible_classes_of_one_octet : List LineClass) → Type 0
 AreInLineOrder line_classes =
     (line_classes ≡ []) ⊎ (line_classes ≡ Value ∷ []) ⊎ (line_classes ≡ Value ∷ Call ∷ [])
     ⊎ (line_classes ≡ Rest ∷ [])
@@ -73,8 +73,8 @@ pub record GivesLinesInOrder (R : MessageReader) : Type 0 where
       (filter (λ r. r.at == k) (R.reads phase number header xs)))
 
 -- the lines that one more octet adds
-abbrev pub next_lines : (R : MessageReader) (phase : Phase) (number : ℕ) (header octets : List ℕ)
-    (octet : ℕ) → List TimedLine
+abbrev pub next_lines : (R : MessageReader) (phase : Phase) (message_number : ℕ)
+    (header octets_before : List ℕ) (next_octet : ℕ) → List TimedLine
 next_lines R phase number header octets octet = filter (λ r. r.at == suc (length octets))
     (R.reads phase number header (octets ++ octet ∷ []))
 
@@ -87,7 +87,7 @@ is_fault_class Fault = true
 is_fault_class End = false
 
 -- the lines of a close: a fault, the end, or the last part of the rest and the end
-abbrev pub AreCloseClasses : (line_classes : List LineClass) → Type 0
+abbrev pub AreCloseClasses : (classes_of_close : List LineClass) → Type 0
 AreCloseClasses line_classes = (line_classes ≡ Fault ∷ []) ⊎ (line_classes ≡ End ∷ [])
     ⊎ (line_classes ≡ Rest ∷ End ∷ [])
 

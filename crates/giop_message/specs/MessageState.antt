@@ -28,41 +28,47 @@ use Rattle.giop_message.specs.ReaderOfTable.{line_class_of, text_of, first_reque
 -- ---- what is written
 
 -- the text of a line at a place of the stream
-unfoldable pub message_line_text : (number place : ℕ) (line : MessageLine) → List ℕ
+unfoldable pub message_line_text : (message_number place_in_stream : ℕ) (line : MessageLine) →
+    List ℕ
 message_line_text number place s = line_class_text place number (line_class_of s) (text_of s)
 
 -- The text of lines after an offset of the message. `place` octets of the stream came up to that
 -- offset.
-unfoldable pub message_lines_text : (number place offset : ℕ) (emitted : List LineAt) → List ℕ
+unfoldable pub message_lines_text : (message_number stream_octets_at_offset offset_in_message : ℕ)
+    (lines_after_offset : List LineAt) → List ℕ
 message_lines_text number place offset emitted =
     flat_map (λ t. message_line_text number (place + (t.at - offset)) t.message_line) emitted
 
 -- the lines that more octets add
-unfoldable pub more_lines : (S : Signatures) (header octets more : List ℕ) → List LineAt
+unfoldable pub more_lines : (S : Signatures) (header octets_before more_octets : List ℕ) →
+    List LineAt
 more_lines S header octets more = drop (length (message_lines (read_message S header octets)))
     (message_lines (read_message S header (octets ++ more)))
 
 -- the text of these lines, if `place` octets of the stream came before these octets
-unfoldable pub more_lines_text : (S : Signatures) (number place : ℕ) (header octets more : List ℕ) →
-    List ℕ
+unfoldable pub more_lines_text : (S : Signatures) (message_number stream_octets_before_more : ℕ)
+    (header octets_before more_octets : List ℕ) → List ℕ
 more_lines_text S number place header octets more = message_lines_text number place
     (12 + length octets)
     (more_lines S header octets more)
 
-unfoldable pub closing_text : (number place : ℕ) (speeches : List MessageLine) → List ℕ
+unfoldable pub closing_text : (message_number place_in_stream : ℕ)
+    (closing_lines : List MessageLine) → List ℕ
 closing_text number place speeches = flat_map (message_line_text number place) speeches
 
 -- the same text for timed lines, whose octets are counted from 1 after the header: `before` octets
 -- of the message came before, and `place` octets of the stream
-unfoldable pub timed_lines_text : (number place before : ℕ) (timed_lines : List TimedLine) → List ℕ
+unfoldable pub timed_lines_text : (message_number stream_octets_before message_octets_before : ℕ)
+    (timed_lines : List TimedLine) → List ℕ
 timed_lines_text number place before timed_lines =
     flat_map (λ r. line_class_text (place + (r.at - before)) number r.line_class r.text) timed_lines
 
-unfoldable pub closes_text : (number place : ℕ) (line_classes : List (LineClass × List ℕ)) → List ℕ
+unfoldable pub closes_text : (message_number place_in_stream : ℕ)
+    (classes_and_texts : List (LineClass × List ℕ)) → List ℕ
 closes_text number place line_classes = flat_map (λ l. line_class_text place number l.0 l.1)
     line_classes
 
-unfoldable pub is_short_close : (speeches : List MessageLine) → Bool
+unfoldable pub is_short_close : (closing_lines : List MessageLine) → Bool
 is_short_close (ShortLine ∷ more) = true
 is_short_close speeches = false
 
@@ -74,7 +80,7 @@ IsRequestTableOf C request_table = (entries : List Entry) ×
     AgreesWithList (asked_number C) entries request_table
 
 -- the operations are those of this table
-abbrev pub AreKnown : (C : Table) (answer : Answer) → Type 0
+abbrev pub AreKnown : (C : Table) (answered_operations : Answer) → Type 0
 AreKnown C answer = (id : ℕ) → IfSome (answer id) (λ o. o.0 < length C.operations)
 
 abbrev pub body_type : (C : Table) (body_type_id : BodyTypeId) → BodyType
@@ -91,13 +97,14 @@ IsKnown C body_type_ids.Exception = Unit {0}
 IsKnown C body_type_ids.SystemException = Unit {0}
 
 -- the decoder fits the table, and reads as messages of this minor version are read
-pub record FitsVersion (C : Table) (minor : ℕ) (d : Decoder) : Type 0 where
+pub record FitsVersion (C : Table) (minor_version : ℕ) (d : Decoder) : Type 0 where
   pub fits : decoder.Fits C d
-  pub version : decoder.IsOfVersion minor C d
+  pub version : decoder.IsOfVersion minor_version C d
 
 -- the part fits a message of this minor version that has taken this number of octets; if the part
 -- is a section, this is its decoder
-abbrev pub FitsPart : (C : Table) (minor at : ℕ) (decoder : Decoder) (part : Part) → Type 0
+abbrev pub FitsPart : (C : Table) (minor_version message_octets_taken : ℕ) (decoder : Decoder)
+    (part : Part) → Type 0
 FitsPart C minor at d (parts.Typed section) = FitsVersion C minor d
 FitsPart C minor at d (parts.Padding body_type_id) = IsKnown C body_type_id
 FitsPart C minor at d (parts.Rest r) = r.offset + length r.held.items ≤ at
@@ -107,16 +114,15 @@ abbrev pub Fits : (C : Table) (message : Message) → Type 0
 Fits C m = FitsPart C (minor m.header) m.at m.decoder m.part
 
 -- how many of its octets a message has taken, with the 12 of its header
-abbrev pub octets_taken : (message : Message) → ℕ
+abbrev pub octets_taken : (message_with_header : Message) → ℕ
 octets_taken m = m.at
 
 -- ---- a message that follows a list of octets
 
 -- If the section is the header, it is the first section of the message: nothing is said before it,
 -- no octet comes before it, and its type is the header's in this version of signature files.
-abbrev pub IsFirstIfHeader : (version : ℕ) (header : List ℕ) (section : Section) (T : Ty)
-    (before : Said)
-    (front : List ℕ) → Type 0
+abbrev pub IsFirstIfHeader : (signature_file_version : ℕ) (header : List ℕ) (section : Section)
+    (section_type : Ty) (said_before : Said) (octets_before : List ℕ) → Type 0
 IsFirstIfHeader version header sections.Header T before front =
     (header_type version (minor header) (kind header) ≡ Some T) × (before ≡ nothing_said)
     × (front ≡ [])
@@ -126,25 +132,24 @@ IsFirstIfHeader version header sections.Body T before front = Unit {0}
 
 -- Some lines were said, and then a section begins; a decoder reads the octets of the section as a
 -- value of a type.
-pub record Decodes (C : Table) (S : Signatures) (number : ℕ) (header s : List ℕ) (section : Section)
-    (d : Decoder)
-    : Type 0 where
+pub record Decodes (C : Table) (S : Signatures) (message_number : ℕ)
+    (header octets_after_header : List ℕ) (section : Section) (d : Decoder) : Type 0 where
   pub T : Ty
   pub before : Said
   pub front : List ℕ
   pub octets : List ℕ
-  pub since : s ≡ front ++ octets
-  pub is : read_message S header s ≡ with_front before
+  pub since : octets_after_header ≡ front ++ octets
+  pub is : read_message S header octets_after_header ≡ with_front before
       (section_and_rest S header section nothing_noted
       (reading (coding_of S header) [] T (12 + length front) octets))
   pub first : IsFirstIfHeader C.version header section T before front
-  pub reads : decoder.Reads C T (coding_of S header) (12 + length front) number (root_of section) d
-      octets
+  pub reads : decoder.Reads C T (coding_of S header) (12 + length front) message_number
+      (root_of section) d octets
 
 -- at which stage a message with this number and header is after these octets: from the part to
 -- which the next octet belongs, and from the decoder of a section
-abbrev pub PartFollows : (C : Table) (answers : Answers) (phase : Phase) (number : ℕ)
-    (header octets : List ℕ) (decoder : Decoder) (part : Part) → Type 0
+abbrev pub PartFollows : (C : Table) (answers : Answers) (phase : Phase) (message_number : ℕ)
+    (header octets_after_header : List ℕ) (decoder : Decoder) (part : Part) → Type 0
 PartFollows C answers phase number header octets d (parts.Typed section) =
     Decodes C (signatures_of C (answers number) phase) number header octets section d
 PartFollows C answers phase number header octets d (parts.Padding body_type_id) =
@@ -170,22 +175,26 @@ in_header (parts.Rest r) = false
 -- The message's fields are those of a reading of its header and these octets after it, with padding
 -- counted by this phase; no payload is joined to them after the last one. While the header is
 -- being read, its decoder has the request id.
-pub record Follows (C : Table) (answers : Answers) (phase : Phase) (number : ℕ) (header : List ℕ)
-    (message : Message) (octets : List ℕ) : Type 0 where
-  pub same_number : message.number ≡ number
+pub record Follows (C : Table) (answers : Answers) (phase : Phase) (message_number : ℕ)
+    (header : List ℕ) (message : Message) (octets_after_header : List ℕ) : Type 0 where
+  pub same_number : message.number ≡ message_number
   pub same_header : message.header ≡ header
   pub id : message.id ≡ cond (in_header message.part) None
       (first_request_id (message_lines (read_message (signatures_of C
-      (answers number) phase) header octets)))
-  pub at : message.at ≡ 12 + length octets
+      (answers message_number) phase) header octets_after_header)))
+  pub at : message.at ≡ 12 + length octets_after_header
   pub counted : IsShiftedFrom phase message.lacks message.at
-  pub stands : PartFollows C answers phase number header octets message.decoder message.part
+  pub stands : PartFollows C answers phase message_number header octets_after_header
+      message.decoder message.part
 
 -- ---- the calls of a message
 
 -- The message is faulted at the n-th of these octets, counted from 1.
-pub record FaultedAt (S : Signatures) (header octets more : List ℕ) (n : ℕ) : Type 0 where
-  pub some : 0 < n
-  pub within : n ≤ length more
-  pub here : is_over (stage_of (read_message S header (octets ++ take n more))) ≡ true
-  pub not_before : is_over (stage_of (read_message S header (octets ++ take (n - 1) more))) ≡ false
+pub record FaultedAt (S : Signatures) (header octets_before more_octets : List ℕ)
+    (octets_up_to_fault : ℕ) : Type 0 where
+  pub some : 0 < octets_up_to_fault
+  pub within : octets_up_to_fault ≤ length more_octets
+  pub here : is_over (stage_of (read_message S header
+      (octets_before ++ take octets_up_to_fault more_octets))) ≡ true
+  pub not_before : is_over (stage_of (read_message S header
+      (octets_before ++ take (octets_up_to_fault - 1) more_octets))) ≡ false

@@ -25,28 +25,27 @@ use Rattle.giop_message.specs.HeaderEnds.{CallEvent, header_event, raise_event}
 use Rattle.giop_message.specs.MessageState.{IsFirstIfHeader, PartFollows, Follows, FaultedAt}
 
 -- the line of a reading's fault; the octet of the fault has this place in the stream
-abbrev pub fault_text : (number place : ℕ) (read : Read) → List ℕ
+abbrev pub fault_text : (message_number fault_place_in_stream : ℕ) (read : Read) → List ℕ
 fault_text number place (Done lines at rest) = []
 fault_text number place (Short lines at outer leaf) = []
 fault_text number place (Fault lines at why T) = fault_line number (fault_word why) place
 
 -- the line of a call, with its interface or without one
-abbrev pub call_line_with : (number id : ℕ) (operation : List ℕ) (interface : Option (List ℕ)) →
-    List ℕ
+abbrev pub call_line_with : (message_number request_id : ℕ) (operation_name : List ℕ)
+    (interface : Option (List ℕ)) → List ℕ
 call_line_with number id operation None = call_line number id operation
 call_line_with number id operation (Some interface) = interface_call_line number id operation
     interface
 
 -- the line of a call, if a call line can show it
-unfoldable pub call_line_if_shown : (number : ℕ) (id : Option ℕ) (operation interface : Option
-    (List ℕ)) →
-    List ℕ
+unfoldable pub call_line_if_shown : (message_number : ℕ) (request_id : Option ℕ)
+    (name_shown_if_graphic interface : Option (List ℕ)) → List ℕ
 call_line_if_shown number (Some id) (Some operation) interface =
     if is_graphic_name operation then call_line_with number id operation interface else []
 call_line_if_shown number id operation interface = []
 
 -- the line of a call, if this is the header of a Request
-unfoldable pub call_line_of_request : (S : Signatures) (number : ℕ) (header : List ℕ)
+unfoldable pub call_line_of_request : (S : Signatures) (message_number : ℕ) (header : List ℕ)
     (noted : Noted) →
     List ℕ
 call_line_of_request S number header h =
@@ -63,26 +62,26 @@ body_type_after S header sections.SystemException h = Untyped
 body_type_after S header sections.Body h = Untyped
 
 -- whether there is padding between a section that ends at this offset and what follows it
-abbrev pub has_padding_after : (header : List ℕ) (section : Section) (offset : ℕ) → Bool
+abbrev pub has_padding_after : (header : List ℕ) (section : Section) (section_end_offset : ℕ) → Bool
 has_padding_after header sections.Header at = has_aligned_body header && nat_lt 0 (padding at 8)
 has_padding_after header sections.Exception at = false
 has_padding_after header sections.SystemException at = false
 has_padding_after header sections.Body at = false
 
--- the message has this number and this header, has taken as many octets as `s` has, and counts
--- padding by this phase
-pub record HasTaken (phase : Phase) (number : ℕ) (header : List ℕ) (message : Message)
-    (octets : List ℕ) : Type 0
+-- the message has this number and this header, has taken this many octets, and counts padding by
+-- this phase
+pub record HasTaken (phase : Phase) (message_number : ℕ) (header : List ℕ) (message : Message)
+    (octets_as_many_as_taken : List ℕ) : Type 0
   where
-    pub same_number : message.number ≡ number
+    pub same_number : message.number ≡ message_number
     pub same_header : message.header ≡ header
-    pub at : message.at ≡ 12 + length octets
+    pub at : message.at ≡ 12 + length octets_as_many_as_taken
     pub counted : IsShiftedFrom phase message.lacks message.at
 
 -- if a message has said what came before and then reads as `m`, the new part fits `m`
-abbrev pub NewPartReads : (C : Table) (answers : Answers) (phase : Phase) (number : ℕ)
-    (header : List ℕ)
-    (old new : Message) (octets : List ℕ) (m : Messages.MessageReading) → Type 0
+abbrev pub NewPartReads : (C : Table) (answers : Answers) (phase : Phase) (message_number : ℕ)
+    (header : List ℕ) (old new : Message) (octets_after_header : List ℕ)
+    (reading_from_new_part : Messages.MessageReading) → Type 0
 NewPartReads C answers phase number header old new octets m =
     HasTaken phase number header old octets → (before : Said) →
     read_message (signatures_of C (answers number) phase) header octets ≡ with_front before m →
@@ -90,9 +89,9 @@ NewPartReads C answers phase number header old new octets m =
 
 -- If a message has said what came before, and then a section of this type begins, and no octet of
 -- it has come, the new part is that section.
-abbrev pub NewSectionReads : (C : Table) (answers : Answers) (phase : Phase) (number : ℕ)
-    (header : List ℕ)
-    (old new : Message) (octets : List ℕ) (section : Section) (T : Ty) → Type 0
+abbrev pub NewSectionReads : (C : Table) (answers : Answers) (phase : Phase) (message_number : ℕ)
+    (header : List ℕ) (old new : Message) (octets_before_section : List ℕ) (section : Section)
+    (section_type : Ty) → Type 0
 NewSectionReads C answers phase number header old new octets section T =
     HasTaken phase number header old octets → (before : Said) →
     IsFirstIfHeader C.version header section T
@@ -109,15 +108,15 @@ IsInSection part = ⊥
 
 -- the part is this section, and its decoder has the notes of this reading
 abbrev pub HasEndedSection : (C : Table) (decoder : Decoder) (part : Part) (section : Section)
-    (reading : Read) → Type 0
+    (section_reading : Read) → Type 0
 HasEndedSection C d (parts.Typed held) section r = (held ≡ section) ×
     KeepsNoted C (root_of section) d r
 HasEndedSection C d part section r = ⊥
 
 -- what is told when a section ends: from its reading, and, if it is a header, from the operation
 -- that it names
-abbrev pub section_event : (section : Section) (number : ℕ) (header : List ℕ) (reading : Read)
-    (operation : Option OpId) → Option CallEvent
+abbrev pub section_event : (section : Section) (message_number : ℕ) (header : List ℕ)
+    (section_reading : Read) (operation_if_header : Option OpId) → Option CallEvent
 section_event sections.Header number header r operation =
     header_event number header (noted_of true r) operation
 section_event sections.Exception number header r operation =
@@ -127,11 +126,11 @@ section_event sections.SystemException number header r operation =
 section_event sections.Body number header r operation = None
 
 -- the line of the last part of a rest, or nothing if that part has no octets
-abbrev pub held_text : (number offset : ℕ) (octets : List ℕ) → List ℕ
+abbrev pub held_text : (message_number offset_in_rest : ℕ) (last_rest_octets : List ℕ) → List ℕ
 held_text number offset [] = []
 held_text number offset (x ∷ held) = rest_line number offset (x ∷ held)
 
-abbrev pub last_rest_text : (number : ℕ) (part : Part) → List ℕ
+abbrev pub last_rest_text : (message_number : ℕ) (part : Part) → List ℕ
 last_rest_text number (parts.Typed section) = []
 last_rest_text number (parts.Padding body_type_id) = []
 last_rest_text number (parts.Rest r) = held_text number r.offset r.held.items
@@ -140,8 +139,9 @@ last_rest_text number (parts.Rest r) = held_text number r.offset r.held.items
 
 -- the call took `count` octets: the message is over at the last of them, or it follows the longer
 -- list
-abbrev pub TookSome : (C : Table) (answers : Answers) (phase : Phase) (number : ℕ) (header : List ℕ)
-    (message : Message) (taken octets : List ℕ) (count : ℕ) (over : Bool) → Type 0
+abbrev pub TookSome : (C : Table) (answers : Answers) (phase : Phase) (message_number : ℕ)
+    (header : List ℕ) (message : Message) (octets_before given_octets : List ℕ) (taken_count : ℕ)
+    (is_faulted : Bool) → Type 0
 TookSome C answers phase number header m taken octets count false =
     Follows C answers phase number header m (taken ++ take count octets)
 TookSome C answers phase number header m taken octets count true =

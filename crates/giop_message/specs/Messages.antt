@@ -36,7 +36,7 @@ pub record LineAt : Type 0 where
   pub at : ℕ
   pub message_line : MessageLine
 
-unfoldable pub line_at : (offset : ℕ) (message_line : MessageLine) → LineAt
+unfoldable pub line_at : (offset_after_last_octet : ℕ) (message_line : MessageLine) → LineAt
 line_at at message_line = record { at = at; message_line = message_line }
 
 -- What can end in a message without a line of its own: the header, with what is noted of it; and
@@ -65,9 +65,8 @@ is_graphic octet = nat_le 33 octet && nat_le octet 126
 unfoldable pub is_graphic_name : (name : List ℕ) → Bool
 is_graphic_name name = nat_lt 0 (length name) && list_all is_graphic name
 
-unfoldable pub call_line_if_named : (offset : ℕ) (id : Option ℕ) (name interface : Option
-    (List ℕ)) →
-    List LineAt
+unfoldable pub call_line_if_named : (offset_after_last_octet : ℕ) (request_id : Option ℕ)
+    (name_shown_if_graphic interface : Option (List ℕ)) → List LineAt
 call_line_if_named at (Some id) (Some name) interface =
     if is_graphic_name name then line_at at (CallLine id name interface) ∷ [] else []
 call_line_if_named at id name interface = []
@@ -83,15 +82,15 @@ abbrev pub no_calls : CallSource
 no_calls = record { is_request = false; interface = λ key. None }
 
 -- The call line comes after the line that ends the operation of a Request.
-unfoldable pub call_lines_after : (calling : CallSource) (line : ValueAt) (noted : Noted) →
-    List LineAt
+unfoldable pub call_lines_after : (call_source : CallSource) (value_line : ValueAt)
+    (noted_with_line : Noted) → List LineAt
 call_lines_after calling l h =
     if ends_operation calling.is_request l
     then call_line_if_named l.at h.request_id h.name (calling.interface h.key) else []
 
 -- The lines of a reading below a root, if this was noted before them.
-unfoldable pub section_lines : (root : Root) (calling : CallSource) (noted : Noted)
-    (lines : List ValueAt) → List LineAt
+unfoldable pub section_lines : (root : Root) (call_source : CallSource) (noted_before : Noted)
+    (value_lines : List ValueAt) → List LineAt
 section_lines root calling h [] = []
 section_lines root calling h (l ∷ ls) =
     let now = note_line (is_header_root root) h l in
@@ -129,22 +128,22 @@ pub data MessageReading : Type 0 where
   ReadTo : Said → ℕ → Stage → MessageReading
 
 -- what was said first, and then what was said after it
-abbrev pub said_both : (front said : Said) → Said
+abbrev pub said_both : (said_first said_after : Said) → Said
 said_both front said = record {
   lines = front.lines ++ said.lines;
   marks = front.marks ++ said.marks;
 }
 
-unfoldable pub with_front : (said : Said) (reading : MessageReading) → MessageReading
+unfoldable pub with_front : (said_before : Said) (reading : MessageReading) → MessageReading
 with_front front (ReadTo said at stage) = ReadTo (said_both front said) at stage
 
-abbrev pub name_marks : (name : Option (List ℕ)) → List Mark
+abbrev pub name_marks : (exception_name : Option (List ℕ)) → List Mark
 name_marks None = []
 name_marks (Some name) = NameMark name ∷ []
 
 -- The mark at the end of a section, from what is noted of the section. An exception's name is the
 -- last string of its section: the repository id, or the name of a system exception.
-abbrev pub end_marks : (section : Section) (noted : Noted) → List Mark
+abbrev pub end_marks : (section : Section) (noted_of_section : Noted) → List Mark
 end_marks sections.Header h = HeaderMark h ∷ []
 end_marks sections.Exception h = name_marks h.name
 end_marks sections.SystemException h = name_marks h.name
@@ -152,8 +151,9 @@ end_marks sections.Body h = []
 
 -- A section, and what follows it, from what is noted of the section. A fault has its own line in
 -- the place of the value's line, and ends the message.
-unfoldable pub section_then : (section : Section) (calling : CallSource)
-    (next : Noted → ℕ → List ℕ → MessageReading) (noted : Noted) (read : Read) → MessageReading
+unfoldable pub section_then : (section : Section) (call_source : CallSource)
+    (read_what_follows : Noted → ℕ → List ℕ → MessageReading) (noted_before : Noted)
+    (section_read : Read) → MessageReading
 section_then section calling next h (Done lines at s) =
     let root = root_of section in
     let now = note_lines (is_header_root root) h lines in
@@ -171,14 +171,15 @@ section_then section calling next h (Fault lines at why T) =
 -- ---- the rest
 
 -- the rest in parts of 32 octets; this many parts are full
-unfoldable pub read_rest_in_parts : (full offset at : ℕ) (octets : List ℕ) → MessageReading
+unfoldable pub read_rest_in_parts : (full_parts_of_32 offset_in_rest offset_in_message : ℕ)
+    (octets_of_rest : List ℕ) → MessageReading
 read_rest_in_parts zero offset at octets = ReadTo nothing_said (at + length octets)
     (In_rest offset octets)
 read_rest_in_parts (suc full) offset at octets =
     with_front (only_lines (line_at (at + 32) (RestLine offset (take 32 octets)) ∷ []))
     (read_rest_in_parts full (offset + 32) (at + 32) (drop 32 octets))
 
-unfoldable pub read_rest : (offset : ℕ) (octets : List ℕ) → MessageReading
+unfoldable pub read_rest : (offset_in_message : ℕ) (octets_of_rest : List ℕ) → MessageReading
 read_rest at octets = read_rest_in_parts (length octets / 32) 0 at octets
 
 -- ---- bodies
@@ -187,31 +188,30 @@ read_rest at octets = read_rest_in_parts (length octets / 32) 0 at octets
 abbrev pub coding_of : (S : Signatures) (header : List ℕ) → Coding
 coding_of S header = record { order = order header; phase = S.phase }
 
-unfoldable pub read_typed : (coding : Coding) (T : Ty) (offset : ℕ) (octets : List ℕ) →
-    MessageReading
+unfoldable pub read_typed : (coding : Coding) (body_type : Ty) (offset_in_message : ℕ)
+    (octets : List ℕ) → MessageReading
 read_typed coding T at octets = section_then sections.Body no_calls (λ h. read_rest) nothing_noted
     (reading coding [] T at octets)
 
-unfoldable pub read_typed_if_some : (coding : Coding) (T : Option Ty) (offset : ℕ)
-    (octets : List ℕ) →
-    MessageReading
+unfoldable pub read_typed_if_some : (coding : Coding) (body_type : Option Ty)
+    (offset_in_message : ℕ) (octets : List ℕ) → MessageReading
 read_typed_if_some coding None at octets = read_rest at octets
 read_typed_if_some coding (Some T) at octets = read_typed coding T at octets
 
-unfoldable pub members_of : (S : Signatures) (header : List ℕ) (repository : Option (List ℕ)) →
-    Option Ty
+unfoldable pub members_of : (S : Signatures) (header : List ℕ)
+    (exception_repository_id : Option (List ℕ)) → Option Ty
 members_of S header None = None
 members_of S header (Some repository) = S.members (minor header) repository
 
 -- the members of the exception whose repository id has come
 unfoldable pub read_after_exception : (S : Signatures) (header : List ℕ) (noted : Noted)
-    (offset : ℕ)
+    (offset_in_message : ℕ)
     (octets : List ℕ) → MessageReading
 read_after_exception S header h = read_typed_if_some (coding_of S header)
     (members_of S header h.name)
 
-unfoldable pub read_body : (S : Signatures) (header : List ℕ) (body_type : BodyType) (offset : ℕ)
-    (octets : List ℕ) → MessageReading
+unfoldable pub read_body : (S : Signatures) (header : List ℕ) (body_type : BodyType)
+    (offset_in_message : ℕ) (octets : List ℕ) → MessageReading
 read_body S header Untyped at octets = read_rest at octets
 read_body S header (Typed T) at octets = read_typed (coding_of S header) T at octets
 read_body S header UserException at octets =
@@ -227,18 +227,19 @@ typed_if_some (Some T) = Typed T
 
 -- the body of a Request, from its operation, which is the last string of its header, and from its
 -- object key
-unfoldable pub request_body : (S : Signatures) (header : List ℕ) (key name : Option (List ℕ)) →
-    BodyType
+unfoldable pub request_body : (S : Signatures) (header : List ℕ)
+    (object_key operation_name : Option (List ℕ)) → BodyType
 request_body S header key None = Untyped
 request_body S header key (Some name) = typed_if_some (S.request (minor header) name key)
 
-unfoldable pub result_body : (S : Signatures) (header : List ℕ) (id : Option ℕ) → BodyType
+unfoldable pub result_body : (S : Signatures) (header : List ℕ) (request_id : Option ℕ) → BodyType
 result_body S header None = Untyped
 result_body S header (Some id) = typed_if_some (S.reply (minor header) id)
 
 -- the body of a Reply, from its status: NO_EXCEPTION, USER_EXCEPTION, SYSTEM_EXCEPTION,
 -- LOCATION_FORWARD, LOCATION_FORWARD_PERM, NEEDS_ADDRESSING_MODE
-unfoldable pub reply_body : (S : Signatures) (header : List ℕ) (id status : Option ℕ) → BodyType
+unfoldable pub reply_body : (S : Signatures) (header : List ℕ)
+    (request_id reply_status : Option ℕ) → BodyType
 reply_body S header id None = Untyped
 reply_body S header id (Some status) =
     if status == 0 then result_body S header id
@@ -254,7 +255,7 @@ is_request header = kind header == 0
 -- the body of a LocateReply, from its status: OBJECT_FORWARD, OBJECT_FORWARD_PERM,
 -- LOC_SYSTEM_EXCEPTION, LOC_NEEDS_ADDRESSING_MODE (GIOP Message Formats, LocateReply Body). It
 -- raises nothing, since it answers no call.
-unfoldable pub locate_body : (S : Signatures) (status : Option ℕ) → BodyType
+unfoldable pub locate_body : (S : Signatures) (locate_status : Option ℕ) → BodyType
 locate_body S None = Untyped
 locate_body S (Some status) =
     if S.has_locate_bodies then
@@ -266,7 +267,7 @@ locate_body S (Some status) =
 
 -- the body of a message, from what is noted of its header; messages of other types have no typed
 -- body
-unfoldable pub body_of : (S : Signatures) (header : List ℕ) (noted : Noted) → BodyType
+unfoldable pub body_of : (S : Signatures) (header : List ℕ) (noted_of_header : Noted) → BodyType
 body_of S header h =
     if is_request header then request_body S header h.key h.name
     else (if kind header == 1 then reply_body S header h.request_id h.status
@@ -281,15 +282,15 @@ has_aligned_body header = nat_lt (kind header) 2 && (minor header == 2)
 
 -- a body after the padding up to the next multiple of 8
 unfoldable pub read_padding_and_body : (S : Signatures) (header : List ℕ) (body_type : BodyType)
-    (offset : ℕ)
+    (offset_in_message : ℕ)
     (octets : List ℕ) → MessageReading
 read_padding_and_body S header b at octets =
     if nat_lt (length octets) (padding at 8) then ReadTo nothing_said (at + length octets)
     (In_padding b)
     else read_body S header b (at + padding at 8) (drop (padding at 8) octets)
 
-unfoldable pub read_after_header : (S : Signatures) (header : List ℕ) (noted : Noted) (offset : ℕ)
-    (octets : List ℕ) → MessageReading
+unfoldable pub read_after_header : (S : Signatures) (header : List ℕ) (noted : Noted)
+    (offset_in_message : ℕ) (octets : List ℕ) → MessageReading
 read_after_header S header h at octets =
     if has_aligned_body header then read_padding_and_body S header (body_of S header h) at octets
     else read_body S header (body_of S header h) at octets
@@ -298,8 +299,8 @@ read_after_header S header h at octets =
 abbrev pub header_call_source : (S : Signatures) (header : List ℕ) → CallSource
 header_call_source S header = record { is_request = is_request header; interface = S.interface }
 
-unfoldable pub read_header_and_rest : (S : Signatures) (header : List ℕ) (T : Option Ty)
-    (offset : ℕ)
+unfoldable pub read_header_and_rest : (S : Signatures) (header : List ℕ) (header_type : Option Ty)
+    (offset_in_message : ℕ)
     (octets : List ℕ) → MessageReading
 read_header_and_rest S header None at octets = read_rest at octets
 read_header_and_rest S header (Some T) at octets =
@@ -308,7 +309,8 @@ read_header_and_rest S header (Some T) at octets =
     (reading (coding_of S header) [] T at octets)
 
 -- a message with this header of 12 octets, and these octets after it
-unfoldable pub read_message : (S : Signatures) (header octets : List ℕ) → MessageReading
+unfoldable pub read_message : (S : Signatures) (header octets_after_header : List ℕ) →
+    MessageReading
 read_message S header octets = read_header_and_rest S header (S.header (minor header)
     (kind header)) 12 octets
 
@@ -321,7 +323,7 @@ section_call_source S header sections.Body = no_calls
 
 -- what follows a section, from what is noted of the section
 abbrev pub read_after_section : (S : Signatures) (header : List ℕ) (section : Section)
-    (noted : Noted) (offset : ℕ)
+    (noted : Noted) (offset_in_message : ℕ)
     (octets : List ℕ) → MessageReading
 read_after_section S header sections.Header = read_after_header S header
 read_after_section S header sections.Exception = read_after_exception S header
@@ -329,15 +331,15 @@ read_after_section S header sections.SystemException = λ h. read_rest
 read_after_section S header sections.Body = λ h. read_rest
 
 -- a section that goes on after this was noted of it, and what follows the section
-abbrev pub section_and_rest : (S : Signatures) (header : List ℕ) (section : Section) (noted : Noted)
-    (read : Read) → MessageReading
+abbrev pub section_and_rest : (S : Signatures) (header : List ℕ) (section : Section)
+    (noted_before : Noted) (section_read : Read) → MessageReading
 section_and_rest S header section = section_then section (section_call_source S header section)
     (read_after_section S header section)
 
 -- ---- the close of a message
 
 -- whether a body needs no octets, so that a message may end in the padding before it
-unfoldable pub body_may_be_missing : (body_type : BodyType) → Bool
+unfoldable pub body_may_be_missing : (untyped_or_empty_body : BodyType) → Bool
 body_may_be_missing Untyped = true
 body_may_be_missing (Typed (Struct zero names parts)) = true
 body_may_be_missing b = false
@@ -349,10 +351,10 @@ lines_of_close (In_rest offset []) = EndLine ∷ []
 lines_of_close (In_rest offset (x ∷ held)) = RestLine offset (x ∷ held) ∷ EndLine ∷ []
 lines_of_close Over = EndLine ∷ []
 
-unfoldable pub message_lines : (reading : MessageReading) → List LineAt
+unfoldable pub message_lines : (reading_to_here : MessageReading) → List LineAt
 message_lines (ReadTo said at stage) = said.lines
 
-unfoldable pub message_marks : (reading : MessageReading) → List Mark
+unfoldable pub message_marks : (reading_to_here : MessageReading) → List Mark
 message_marks (ReadTo said at stage) = said.marks
 
 unfoldable pub stage_of : (reading : MessageReading) → Stage

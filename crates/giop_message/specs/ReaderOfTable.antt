@@ -26,7 +26,7 @@ line_class_of ShortLine = Fault
 line_class_of EndLine = End
 
 -- the text of a line without the message's number; the text of a fault is its word
-unfoldable pub text_of : (line : MessageLine) → List ℕ
+unfoldable pub text_of : (line_without_message_number : MessageLine) → List ℕ
 text_of (ValueLine root path v) = value_line_text (path_text root path) v
 text_of (CallLine id operation interface) = call_text id operation interface
 text_of (RestLine offset octets) = rest_text offset octets
@@ -48,23 +48,26 @@ abbrev pub class_and_text : (line : MessageLine) → LineClass × List ℕ
 class_and_text s = (line_class_of s, text_of s)
 
 -- the lines of a message with this header, from what the message has said
-unfoldable pub timed_lines_by : (S : Signatures) (header octets : List ℕ) → List TimedLine
+unfoldable pub timed_lines_by : (S : Signatures) (header octets_after_header : List ℕ) →
+    List TimedLine
 timed_lines_by S header octets = map timed_line_of (message_lines (read_message S header octets))
 
-unfoldable pub lines_of_close_by : (S : Signatures) (header octets : List ℕ) → List (LineClass ×
-    List ℕ)
+unfoldable pub lines_of_close_by : (S : Signatures) (header octets_after_header : List ℕ) →
+    List (LineClass × List ℕ)
 lines_of_close_by S header octets = map class_and_text (lines_of_close (stage_of
     (read_message S header octets)))
 
 -- the reader of messages, if each message is read by the signatures for its phase and number
-abbrev pub reader_by : (S : (phase : Phase) (message_number : ℕ) → Signatures) → MessageReader
+abbrev pub reader_by : (signatures_for : (phase : Phase) (message_number : ℕ) → Signatures) →
+    MessageReader
 reader_by S = record {
   reads = λ phase number. timed_lines_by (S phase number);
   closes = λ phase number. lines_of_close_by (S phase number);
 }
 
 -- the lines that one more octet adds
-abbrev pub next_lines_by : (S : Signatures) (header octets : List ℕ) (octet : ℕ) → List TimedLine
+abbrev pub next_lines_by : (S : Signatures) (header octets_before : List ℕ) (next_octet : ℕ) →
+    List TimedLine
 next_lines_by S header octets octet =
     filter (λ r. r.at == suc (length octets)) (timed_lines_by S header (octets ++ octet ∷ []))
 
@@ -84,7 +87,7 @@ request_id_in (ValueLine roots.Header path (Number (Plain prims.ULong) n)) =
     cond (is_member (codes "request_id") path) (Some n) None
 request_id_in message_line = None
 
-unfoldable pub first_some : (id later : Option ℕ) → Option ℕ
+unfoldable pub first_some : (first_id later_id : Option ℕ) → Option ℕ
 first_some (Some id) later = Some id
 first_some None later = later
 

@@ -14,9 +14,9 @@ unfoldable pub request_id_path : List ℕ
 request_id_path = path_text roots.Header (Name (codes "request_id") ∷ [])
 
 -- the text of the line without the message's number
-unfoldable pub request_id_text : (id : ℕ) → List ℕ
+unfoldable pub request_id_text : (request_id : ℕ) → List ℕ
 request_id_text id = value_line_text request_id_path (Number (Plain prims.ULong) id)
 
 -- the line; the fourth octet completes it
-abbrev pub request_id_timed_line : (id : ℕ) → TimedLine
+abbrev pub request_id_timed_line : (request_id : ℕ) → TimedLine
 request_id_timed_line id = record { at = 4; line_class = Value; text = request_id_text id }

@@ -49,12 +49,12 @@ abbrev pub Answers : Type 0
 Answers = ℕ → Answer
 
 -- a request list gives the same answers in each message
-abbrev pub by_list : (request_table : RequestTable) → Answers
+abbrev pub by_list : (table_for_any_message : RequestTable) → Answers
 by_list request_table number id = kept_operation request_table id
 
 -- The type of a body. It has none if it has wide text and the message is one of 1.0 or 1.1, in
 -- which the form of wide text isn't certain (CDR Transfer Syntax, Strings and Wide Strings).
-abbrev pub body_tree : (C : Table) (number : ℕ) → Option Ty
+abbrev pub body_tree : (C : Table) (type_index : ℕ) → Option Ty
 body_tree C number = cond (C.forbids_wide && has_wide_text C.types number) None
     (Some (tree C number))
 
@@ -68,14 +68,15 @@ abbrev pub members_type : (C : Table) (type_id : TypeId) → Option Ty
 members_type C t = body_tree C t.0
 
 -- the operation of a Request, from its name and the object key
-abbrev pub called_operation : (C : Table) (key : Option (List ℕ)) (name : List ℕ) → Option OpId
+abbrev pub called_operation : (C : Table) (object_key : Option (List ℕ)) (operation_name : List ℕ) →
+    Option OpId
 called_operation C key name = operation_for C name (interface_of_key C key)
 
 -- the repository id of the interface of an object key
-abbrev pub interface_of : (C : Table) (key : Option (List ℕ)) → Option (List ℕ)
+abbrev pub interface_of : (C : Table) (object_key : Option (List ℕ)) → Option (List ℕ)
 interface_of C key = option_map (λ i. interface_name C i.0) (interface_of_key C key)
 
-unfoldable pub signatures_of : (C : Table) (answer : Answer) (phase : Phase) → Signatures
+unfoldable pub signatures_of : (C : Table) (answer_of_ids : Answer) (phase : Phase) → Signatures
 signatures_of C answer phase = record {
   phase = phase;
   header = header_type C.version;

@@ -5,14 +5,15 @@ use Rattle.giop_decode.specs.ReadingSteps as decoder
 use Rattle.giop_message.specs.Signatures.{Signatures}
 use Rattle.giop_message.specs.Messages.{coding_of, only_lines, nothing_said, line_at, RestLine, Stage, In_typed, In_padding, In_rest, Over, MessageReading, ReadTo, with_front, read_body, section_and_rest}
 
-unfoldable pub rest_step : (offset : ℕ) (held : List ℕ) (at : ℕ) → MessageReading
+unfoldable pub rest_step : (last_part_offset_in_rest : ℕ) (last_part_octets : List ℕ)
+    (offset_in_message : ℕ) → MessageReading
 rest_step offset held at =
     if length held == 32 then ReadTo (only_lines (line_at at (RestLine offset held) ∷ [])) at
     (In_rest (offset + 32) []) else ReadTo nothing_said at (In_rest offset held)
 
 -- The octet is at this offset. After a part that ends, what follows it is read from no octets.
-unfoldable pub message_step : (S : Signatures) (header : List ℕ) (offset : ℕ) (stage : Stage)
-    (octet : ℕ) → MessageReading
+unfoldable pub message_step : (S : Signatures) (header : List ℕ) (offset_in_message : ℕ)
+    (stage : Stage) (octet : ℕ) → MessageReading
 message_step S header at (In_typed section h outer leaf) octet =
     section_and_rest S header section h
     (decoder.root_step (coding_of S header) [] outer leaf at octet)
@@ -31,7 +32,7 @@ read_one_more S header (ReadTo said at stage) octet =
 
 -- a message after these octets
 abbrev pub read_more : (S : Signatures) (header : List ℕ) (reading : MessageReading)
-    (octets : List ℕ) →
+    (more_octets : List ℕ) →
     MessageReading
 read_more S header m [] = m
 read_more S header m (b ∷ t) = read_more S header (read_one_more S header m b) t

@@ -59,7 +59,7 @@ part_octet (parts.Rest r) = 4
 
 -- After the header has ended, the request id has a field of its own; until then, the decoder has
 -- it.
-abbrev pub stored_id : (part : Part) (id : Option ℕ) → Option ℕ
+abbrev pub stored_id : (part_unless_in_header : Part) (request_id : Option ℕ) → Option ℕ
 stored_id part id = cond (in_header part) None id
 
 -- the 16 octets of the message itself: the part, the offset of the next octet, the request id, and
@@ -93,48 +93,50 @@ BodyTypeIdHasRange body_type_ids.Exception = Unit {0}
 BodyTypeIdHasRange body_type_ids.SystemException = Unit {0}
 
 -- these 208 octets are those of the padding before such a body
-pub record IsPaddingOf (octets : List ℕ) (body_type_id : BodyTypeId) : Type 0 where
-  pub is : octets ≡ padding_octets body_type_id
+pub record IsPaddingOf (stored_part_octets : List ℕ) (body_type_id : BodyTypeId) : Type 0 where
+  pub is : stored_part_octets ≡ padding_octets body_type_id
   pub range : BodyTypeIdHasRange body_type_id
 
 -- these 208 octets are those of a rest
-pub record IsRestOf (octets : List ℕ) (rest : Rest) : Type 0 where
-  pub is : octets ≡ rest_octets rest
+pub record IsRestOf (stored_part_octets : List ℕ) (rest : Rest) : Type 0 where
+  pub is : stored_part_octets ≡ rest_octets rest
   pub range : rest.offset < 2 ^ 64
 
 -- these 16 octets are those of the message itself
-pub record AreOwnOctets (octets : List ℕ) (message : Message) : Type 0 where
-  pub is : octets ≡ own_octets message
+pub record AreOwnOctets (stored_octets : List ℕ) (message : Message) : Type 0 where
+  pub is : stored_octets ≡ own_octets message
   pub at : message.at < 2 ^ 64
   pub id : IfSome (stored_id message.part message.id) (λ n. n < 2 ^ 32)
 
 -- a part, with its decoder if it is a section, is stored in these 208 octets and these frames; only
 -- a decoder has frames
-abbrev pub PartStored : (decoder : Decoder) (part : Part) (octets frames : List ℕ) → Type 0
+abbrev pub PartStored : (decoder : Decoder) (part : Part) (fixed_octets frame_octets : List ℕ) →
+    Type 0
 PartStored d (parts.Typed section) octets frames = decoders.Stored d octets frames
 PartStored d (parts.Padding body_type_id) octets frames =
     IsPaddingOf octets body_type_id × (frames ≡ [])
 PartStored d (parts.Rest r) octets frames = IsRestOf octets r × (frames ≡ [])
 
 -- These 224 octets and these frames are what is stored of the message.
-pub record Stored (message : Message) (fixed frames : List ℕ) : Type 0 where
-  pub own : AreOwnOctets (take 16 fixed) message
-  pub part : PartStored message.decoder message.part (drop 16 fixed) frames
+pub record Stored (message : Message) (fixed_octets frame_octets : List ℕ) : Type 0 where
+  pub own : AreOwnOctets (take 16 fixed_octets) message
+  pub part : PartStored message.decoder message.part (drop 16 fixed_octets) frame_octets
 
 -- ---- a part that goes on in the place of another
 
-pub record IsSameRest (q r : Rest) : Type 0 where
-  pub offset : q.offset ≡ r.offset
-  pub held : q.held.items ≡ r.held.items
+pub record IsSameRest (one other : Rest) : Type 0 where
+  pub offset : one.offset ≡ other.offset
+  pub held : one.held.items ≡ other.held.items
 
 -- The other decoder reads all that this one reads.
-pub record ReadsOn (C : Table) (d e : Decoder) : Type 0 where
+pub record ReadsOn (C : Table) (this_decoder other_decoder : Decoder) : Type 0 where
   pub reads : (T : Ty) (coding : Coding) (at message : ℕ) (root : Root) (s : List ℕ) →
-      decoder.Reads C T coding at message root d s → decoder.Reads C T coding at message root e s
+      decoder.Reads C T coding at message root this_decoder s →
+      decoder.Reads C T coding at message root other_decoder s
 
 -- the other part, with its decoder, goes on in the place of this one
 abbrev pub PartGoesOn : (C : Table) (decoder : Decoder) (part : Part) (other_decoder : Decoder)
-    (other : Part) → Type 0
+    (other_part : Part) → Type 0
 PartGoesOn C d (parts.Typed section) e (parts.Typed other) = (other ≡ section) × ReadsOn C d e
 PartGoesOn C d (parts.Padding body_type_id) e (parts.Padding other) = other ≡ body_type_id
 PartGoesOn C d (parts.Rest r) e (parts.Rest other) = IsSameRest other r

@@ -16,12 +16,13 @@ unfoldable pub value_line_text : (path : List ℕ) (value : spine.Value) → Lis
 value_line_text path value = joined (path ∷ value_words value)
 
 -- the line of a call, with the interface of the object key if there is one
-unfoldable pub call_text : (id : ℕ) (operation : List ℕ) (interface : Option (List ℕ)) → List ℕ
+unfoldable pub call_text : (request_id : ℕ) (operation_name : List ℕ)
+    (interface : Option (List ℕ)) → List ℕ
 call_text id operation None = joined (codes "call " ∷ decimal id ∷ codes " " ∷ operation ∷ [])
 call_text id operation (Some interface) =
     joined (codes "call " ∷ decimal id ∷ codes " " ∷ operation ∷ codes " " ∷ interface ∷ [])
 
-unfoldable pub rest_text : (offset : ℕ) (octets : List ℕ) → List ℕ
+unfoldable pub rest_text : (offset_in_rest : ℕ) (octets_of_rest : List ℕ) → List ℕ
 rest_text offset octets = joined (codes "rest @" ∷ decimal offset ∷ codes " " ∷ hex octets ∷ [])
 
 -- the word of a fault
@@ -38,12 +39,13 @@ fault_word kinds.Untyped = codes "untyped"
 -- ---- whole lines
 
 -- a whole line of the message
-unfoldable pub numbered_line : (number : ℕ) (text : List ℕ) → List ℕ
+unfoldable pub numbered_line : (message_number : ℕ) (text_after_number : List ℕ) → List ℕ
 numbered_line number text = joined (codes "m" ∷ decimal number ∷ codes " " ∷ text ∷ codes "\n" ∷ [])
 
 -- the whole line of a message: after its number stands the text, whatever the line's class; but
 -- the text of a fault is its word, and the place in the stream stands behind it
-abbrev pub line_class_text : (place number : ℕ) (class : LineClass) (text : List ℕ) → List ℕ
+abbrev pub line_class_text : (place_in_stream message_number : ℕ) (class : LineClass)
+    (text_after_number : List ℕ) → List ℕ
 line_class_text place number Value text = numbered_line number text
 line_class_text place number Call text = numbered_line number text
 line_class_text place number Rest text = numbered_line number text
@@ -51,6 +53,7 @@ line_class_text place number Fault text = fault_line number text place
 line_class_text place number End text = numbered_line number text
 
 -- the whole lines of a message that come at one place in the stream
-unfoldable pub numbered_lines : (place number : ℕ) (timed_lines : List TimedLine) → List ℕ
+unfoldable pub numbered_lines : (place_in_stream message_number : ℕ)
+    (timed_lines : List TimedLine) → List ℕ
 numbered_lines place number timed_lines =
     flat_map (λ r. line_class_text place number r.line_class r.text) timed_lines

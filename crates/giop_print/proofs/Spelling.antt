@@ -26,6 +26,14 @@ pub escaped_append : (xs ys : List ℕ) → escaped (xs ++ ys) ≡ escaped xs ++
 unfolding escaped
 escaped_append xs ys = flat_map-append escaped_octet xs ys
 
+-- what stands for the first octets, and for those after them
+pub escaped_parted : (n : ℕ) (xs text : List ℕ) →
+    escaped (take n xs) ++ (escaped (drop n xs) ++ text) ≡ escaped xs ++ text
+escaped_parted n xs text =
+    sym (append_assoc (escaped (take n xs)) (escaped (drop n xs)) text)
+    ∙ ap (λ z. z ++ text) (sym (escaped_append (take n xs) (drop n xs))
+    ∙ ap escaped (take-append-drop n xs))
+
 pub spaced_some : (xs : List ℕ) → 0 < length xs → spaced_hex xs ≡ codes " " ++ hex xs
 spaced_some [] h = absurd (omega arith)
 spaced_some (x ∷ xs) h = refl

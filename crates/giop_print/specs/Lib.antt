@@ -1,4 +1,5 @@
 pub mod Output
+pub mod Flushing
 pub mod Gathering
 pub mod Sheet
 pub mod Written

@@ -11,18 +11,18 @@ abbrev pub line_room : (line : Line) → ℕ
 line_room l = l.at
 
 -- a line of a message: `m`, the message's number, and the rest of the line
-abbrev pub numbered : (message : ℕ) (rest : List ℕ) → List ℕ
+abbrev pub numbered : (message_number : ℕ) (text_after_number : List ℕ) → List ℕ
 numbered message rest = codes "m" ++ (decimal message ++ rest)
 
 -- a line of a message at a place: `m`, the message's number, a space, the place, and the rest of
 -- the line
-abbrev pub headed : (message : ℕ) (place rest : List ℕ) → List ℕ
+abbrev pub headed : (message_number : ℕ) (path_text rest_of_line : List ℕ) → List ℕ
 headed message place rest = numbered message (codes " " ++ (place ++ rest))
 
 -- what spelling a text before a line did: all of the text was put there, or an end of it if the
 -- line had no room for all
-pub record Spells (whole : Bool) (before after : Line) (text : List ℕ) : Type 0 where
+pub record Spells (all_fitted : Bool) (before after : Line) (text : List ℕ) : Type 0 where
   pub front : List ℕ
   pub spelled : line_text after ≡ front ++ line_text before
   pub room : line_room after + length front ≡ line_room before
-  pub all : IsTrue whole → front ≡ text
+  pub all : IsTrue all_fitted → front ≡ text

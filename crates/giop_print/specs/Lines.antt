@@ -31,7 +31,7 @@ type_word message_type =
     else (if message_type == 7 then codes "Fragment"
     else decimal message_type)))))))
 
-abbrev pub more_word : (more : Bool) → List ℕ
+abbrev pub more_word : (more_follows : Bool) → List ℕ
 more_word true = codes " more"
 more_word false = []
 
@@ -54,7 +54,7 @@ kind_word prims.Float = codes "float"
 kind_word prims.Double = codes "double"
 
 -- the text of a number of a primitive of this size; bits have two digits for each octet
-abbrev pub number_text : (size : ℕ) (number : Number) → List ℕ
+abbrev pub number_text : (primitive_size : ℕ) (number : Number) → List ℕ
 number_text size (Unsigned n) = decimal n
 number_text size (Signed z) = signed_decimal z
 number_text size (Bits n) = hex_number (2 * size) n
@@ -66,17 +66,17 @@ abbrev pub spaced : (word : List ℕ) → List ℕ
 spaced word = codes " " ++ word ++ codes " "
 
 -- the line of a value of a kind; the word of the kind already has its spaces
-unfoldable pub kind_line : (message : ℕ) (path kind text : List ℕ) → List ℕ
+unfoldable pub kind_line : (message_number : ℕ) (path spaced_kind_word value_text : List ℕ) → List ℕ
 kind_line message path kind text =
     joined (codes "m" ∷ decimal message ∷ codes " " ∷ path ∷ kind ∷ text ∷ codes "\n" ∷ [])
 
 -- the text of a number with its name: a word, and the code after it if there is one
-abbrev pub named_text : (number : ℕ) (word : List ℕ) (code : Option ℕ) → List ℕ
+abbrev pub named_text : (number : ℕ) (name_of_number : List ℕ) (code_after_name : Option ℕ) → List ℕ
 named_text number word None = decimal number ++ (codes " " ++ word)
 named_text number word (Some code) =
     decimal number ++ (codes " " ++ (word ++ (codes " " ++ decimal code)))
 
-abbrev pub value_line : (message : ℕ) (path : List ℕ) (value : Value) → List ℕ
+abbrev pub value_line : (message_number : ℕ) (path : List ℕ) (value : Value) → List ℕ
 value_line message path (values.Primitive prim number) =
     kind_line message path (spaced (kind_word prim)) (number_text (size_of prim) number)
 value_line message path (values.Enum name) = kind_line message path (codes " enum ") name.now
@@ -108,88 +108,92 @@ piece_text (pieces.Text octets) = codes " " ++ quoted octets.now
 piece_text piece = spaced_hex (piece_octets piece)
 
 -- the text of a piece whose octets are followed by more octets
-abbrev pub split_piece_text : (piece : Piece) (next : List ℕ) → List ℕ
+abbrev pub split_piece_text : (held_piece : Piece) (next_octets : List ℕ) → List ℕ
 split_piece_text (pieces.Text octets) next = codes " " ++ quoted (octets.now ++ next)
 split_piece_text piece next = spaced_hex (piece_octets piece ++ next)
 
 -- the line of a part of a content: its offset in the content, its text, and whether more comes
-unfoldable pub content_line : (message : ℕ) (path word : List ℕ) (offset : ℕ) (text more : List ℕ) →
-    List ℕ
+unfoldable pub content_line : (message_number : ℕ) (path spaced_content_word : List ℕ)
+    (offset_in_content : ℕ) (text more_text : List ℕ) → List ℕ
 content_line message path word offset text more =
     joined (codes "m" ∷ decimal message ∷ codes " " ∷ path ∷ word ∷ decimal offset ∷ text ∷ more
     ∷ codes "\n" ∷ [])
 
-abbrev pub piece_line : (message : ℕ) (path : List ℕ) (piece : Piece) (offset : ℕ) (more : Bool) →
-    List ℕ
+abbrev pub piece_line : (message_number : ℕ) (path : List ℕ) (piece : Piece) (offset_in_content : ℕ)
+    (more_follows : Bool) → List ℕ
 piece_line message path piece offset more =
     content_line message path (piece_word piece) offset (piece_text piece) (more_word more)
 
-abbrev pub split_piece_line : (message : ℕ) (path : List ℕ) (held : Piece) (octets : List ℕ)
-    (offset : ℕ) (more : Bool) → List ℕ
+abbrev pub split_piece_line : (message_number : ℕ) (path : List ℕ) (held_piece : Piece)
+    (next_octets : List ℕ) (offset_in_content : ℕ) (more_follows : Bool) → List ℕ
 split_piece_line message path held octets offset more =
     content_line message path (piece_word held) offset (split_piece_text held octets)
     (more_word more)
 
 -- the lines of an encapsulation: how many octets it has, their order, and the octets that are left
 -- after its value
-abbrev pub encapsulation_line : (message : ℕ) (path : List ℕ) (length : ℕ) → List ℕ
+abbrev pub encapsulation_line : (message_number : ℕ) (path : List ℕ) (encapsulation_length : ℕ) →
+    List ℕ
 encapsulation_line message path length =
     kind_line message path (codes " encapsulation ") (decimal length)
 
-abbrev pub order_line : (message : ℕ) (path : List ℕ) (order : Order) → List ℕ
+abbrev pub order_line : (message_number : ℕ) (path : List ℕ) (order : Order) → List ℕ
 order_line message path order = kind_line message path (codes " order ") (order_word order)
 
-abbrev pub inner_rest_line : (message : ℕ) (path : List ℕ) (offset : ℕ) (octets : List ℕ) → List ℕ
+abbrev pub inner_rest_line : (message_number : ℕ) (path : List ℕ) (offset_in_rest : ℕ)
+    (octets_of_rest : List ℕ) → List ℕ
 inner_rest_line message path offset octets =
     content_line message path (codes " rest @") offset (spaced_hex octets) []
 
-unfoldable pub rest_line : (message offset : ℕ) (octets : List ℕ) → List ℕ
+unfoldable pub rest_line : (message_number offset_in_rest : ℕ) (octets_of_rest : List ℕ) → List ℕ
 rest_line message offset octets =
     joined (codes "m" ∷ decimal message ∷ codes " rest @" ∷ decimal offset ∷ codes " " ∷ hex octets
     ∷ codes "\n" ∷ [])
 
-unfoldable pub start_line : (message minor : ℕ) (order : Order) (kind size : ℕ) (more : Bool) →
-    List ℕ
+unfoldable pub start_line : (message_number minor_version : ℕ) (order : Order)
+    (message_type message_size : ℕ) (more_fragments : Bool) → List ℕ
 start_line message minor order kind size more =
     joined (codes "m" ∷ decimal message ∷ codes " start 1." ∷ decimal minor ∷ codes " "
     ∷ order_word order ∷ codes " " ∷ type_word kind ∷ codes " size " ∷ decimal size ∷ more_word more
     ∷ codes "\n" ∷ [])
 
-unfoldable pub call_line : (message id : ℕ) (name : List ℕ) → List ℕ
+unfoldable pub call_line : (message_number request_id : ℕ) (operation_name : List ℕ) → List ℕ
 call_line message id name =
     joined (codes "m" ∷ decimal message ∷ codes " call " ∷ decimal id ∷ codes " " ∷ name ∷ codes
     "\n" ∷ [])
 
 -- the line of a Request whose object key has an interface
-unfoldable pub interface_call_line : (message id : ℕ) (name interface : List ℕ) → List ℕ
+unfoldable pub interface_call_line : (message_number request_id : ℕ)
+    (operation_name interface : List ℕ) → List ℕ
 interface_call_line message id name interface =
     joined (codes "m" ∷ decimal message ∷ codes " call " ∷ decimal id ∷ codes " " ∷ name
     ∷ codes " " ∷ interface ∷ codes "\n" ∷ [])
 
-unfoldable pub continues_line : (fragment opener : ℕ) → List ℕ
+unfoldable pub continues_line : (fragment_number opener_number : ℕ) → List ℕ
 continues_line fragment opener =
     joined (codes "m" ∷ decimal fragment ∷ codes " continues m" ∷ decimal opener ∷ codes "\n" ∷ [])
 
-unfoldable pub cancelled_line : (message canceller : ℕ) → List ℕ
+unfoldable pub cancelled_line : (message_number canceller_number : ℕ) → List ℕ
 cancelled_line message canceller =
     joined (codes "m" ∷ decimal message ∷ codes " cancelled by m" ∷ decimal canceller ∷ codes "\n" ∷ [])
 
-unfoldable pub fault_line : (message : ℕ) (word : List ℕ) (place : ℕ) → List ℕ
+unfoldable pub fault_line : (message_number : ℕ) (fault_word : List ℕ) (place_in_stream : ℕ) →
+    List ℕ
 fault_line message word place =
     joined (codes "m" ∷ decimal message ∷ codes " fault " ∷ word ∷ codes " at " ∷ decimal place
     ∷ codes "\n" ∷ [])
 
-unfoldable pub end_line : (message : ℕ) → List ℕ
+unfoldable pub end_line : (message_number : ℕ) → List ℕ
 end_line message = joined (codes "m" ∷ decimal message ∷ codes " end\n" ∷ [])
 
-unfoldable pub stream_fault_line : (word : List ℕ) (place : ℕ) → List ℕ
+unfoldable pub stream_fault_line : (fault_word : List ℕ) (place_in_stream : ℕ) → List ℕ
 stream_fault_line word place =
     joined (codes "stream fault " ∷ word ∷ codes " at " ∷ decimal place ∷ codes "\n" ∷ [])
 
-unfoldable pub unfinished_line : (message : ℕ) → List ℕ
+unfoldable pub unfinished_line : (message_number : ℕ) → List ℕ
 unfinished_line message = joined (codes "m" ∷ decimal message ∷ codes " unfinished\n" ∷ [])
 
-unfoldable pub total_line : (messages faults octets : ℕ) → List ℕ
+unfoldable pub total_line : (message_count fault_count octet_count : ℕ) → List ℕ
 total_line messages faults octets =
     joined (codes "total messages " ∷ decimal messages ∷ codes " faults " ∷ decimal faults
     ∷ codes " octets " ∷ decimal octets ∷ codes "\n" ∷ [])

@@ -2,7 +2,7 @@
 use Rattle.std.specs.Prelude.{ℕ, zero, suc, ◌/◌, ◌%◌, ◌^◌, ◌==◌, ◌||◌, Bool, false, nat_lt, if◌then◌else◌, not, List, [], ◌∷◌, ◌++◌, slice_index, codes, flat_map}
 
 -- the digit of a number below 16
-abbrev pub hex_digit : (number : ℕ) → ℕ
+abbrev pub hex_digit : (number_below_16 : ℕ) → ℕ
 hex_digit number = slice_index (codes "0123456789abcdef") number
 
 -- the two digits of an octet
@@ -14,12 +14,12 @@ unfoldable pub hex : (octets : List ℕ) → List ℕ
 hex octets = flat_map hex_octet octets
 
 -- this many digits of a number, the lowest last
-unfoldable pub hex_number : (digits number : ℕ) → List ℕ
+unfoldable pub hex_number : (digit_count number : ℕ) → List ℕ
 hex_number zero number = []
 hex_number (suc digits) number = hex_digit (number / 16 ^ digits % 16) ∷ hex_number digits number
 
 -- whether an octet stands for itself: 20 to 7e (hexadecimal), except the quote and the backslash
-abbrev pub is_plain : (octet : ℕ) → Bool
+abbrev pub is_plain : (octet_of_quoted_text : ℕ) → Bool
 is_plain octet = if nat_lt octet 32 then false else
     (if nat_lt 126 octet then false else not (octet == 34 || octet == 92))
 

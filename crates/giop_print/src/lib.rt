@@ -3,6 +3,7 @@
 
 mod digits;
 mod encapsulation_lines;
+mod flush;
 mod head;
 mod line;
 mod lines;
@@ -17,6 +18,7 @@ mod written;
 pub use encapsulation_lines::{
     encapsulation_line, inner_rest_line, order_line, split_inner_rest_line,
 };
+pub use flush::Flush;
 pub use head::Head;
 pub use line::Line;
 pub use lines::{

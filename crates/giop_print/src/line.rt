@@ -1,7 +1,7 @@
 //! A line that is spelled from its end to its front, so that the digits of a number can be put
 //! straight into their place.
 
-ghost use Rattle.std.specs.Prelude.{◌≡◌, ◌≤◌, ◌<◌, ◌+◌, ◌-◌, ◌*◌, [], ◌∷◌, ◌++◌, length, take, drop, decimal};
+ghost use Rattle.std.specs.Prelude.{◌≡◌, ◌≤◌, ◌<◌, ◌+◌, ◌-◌, ◌*◌, [], ◌∷◌, ◌++◌, length, take, drop, decimal, IsTrue};
 ghost use Rattle.std.specs.Fmt.{signed_decimal};
 ghost use Rattle.giop_print.specs.Text.{hex_octet, hex, hex_number, escaped_octet, escaped, quoted};
 ghost use Rattle.giop_print.specs.Lines.{piece_octets, spaced_hex, split_piece_text};
@@ -20,6 +20,18 @@ const BLOCK: usize = 16;
 /// The two digits of each octet, one after another.
 static PAIRS: [u8; 512] =
     *b"000102030405060708090a0b0c0d0e0f101112131415161718191a1b1c1d1e1f202122232425262728292a2b2c2d2e2f303132333435363738393a3b3c3d3e3f404142434445464748494a4b4c4d4e4f505152535455565758595a5b5c5d5e5f606162636465666768696a6b6c6d6e6f707172737475767778797a7b7c7d7e7f808182838485868788898a8b8c8d8e8f909192939495969798999a9b9c9d9e9fa0a1a2a3a4a5a6a7a8a9aaabacadaeafb0b1b2b3b4b5b6b7b8b9babbbcbdbebfc0c1c2c3c4c5c6c7c8c9cacbcccdcecfd0d1d2d3d4d5d6d7d8d9dadbdcdddedfe0e1e2e3e4e5e6e7e8e9eaebecedeeeff0f1f2f3f4f5f6f7f8f9fafbfcfdfeff";
+
+/// Whether each of these octets stands for itself between quotes.
+#[inline(always)]
+fn are_plain(block: u8x16) -> bool
+    ensures { IsTrue result → escaped block ≡ block }
+{
+    let low = block.simd_lt(u8x16::splat(b' ')).to_bitmask();
+    let high = block.simd_gt(u8x16::splat(b'~')).to_bitmask();
+    let quotes = block.simd_eq(u8x16::splat(b'"')).to_bitmask();
+    let backslashes = block.simd_eq(u8x16::splat(b'\\')).to_bitmask();
+    low | high | quotes | backslashes == 0
+}
 
 /// The end of a line, in the last octets of an array. The octets before it are unused.
 #[derive(Drop)]
@@ -277,10 +289,45 @@ impl Line {
         }
     }
 
-    /// Puts what stands for the octets between quotes before what was spelled.
+    /// Puts what stands for the octets between quotes before what was spelled: first 16 octets at
+    /// once, from the last, and then one by one the octets before those.
     #[inline(never)]
     #[tactic(auto, using(crate::proofs::Spelling::spelling_steps))]
     pub(crate) fn put_escaped(&mut self, octets: &[u8])
+        requires { 4 * length octets.now ≤ line_room self.old }
+        ensures text { line_text self.new ≡ escaped octets.now ++ line_text self.old }
+        ensures room { line_room self.old ≤ line_room self.new + 4 * length octets.now }
+    {
+        let mut left = octets.len();
+        while left >= BLOCK {
+            left -= BLOCK;
+            self.put_escaped_block(&octets[left..]);
+        }
+        self.put_escaped_octets(&octets[..left]);
+    }
+
+    /// Puts what stands for the first 16 octets between quotes before what was spelled. If each of
+    /// them stands for itself, they are put at once.
+    #[inline(always)]
+    fn put_escaped_block(&mut self, octets: &[u8])
+        requires size { 16 ≤ length octets.now }
+        requires room { 64 ≤ line_room self.old }
+        ensures text { line_text self.new ≡ escaped (take 16 octets.now) ++ line_text self.old }
+        ensures room { line_room self.old ≤ line_room self.new + 64 }
+    {
+        let block = u8x16::from_slice(octets);
+        if are_plain(block) {
+            self.put_lanes(block, BLOCK);
+        } else {
+            self.put_escaped_octets(&octets[..BLOCK]);
+        }
+    }
+
+    /// Puts what stands for the octets between quotes before what was spelled, one octet after
+    /// another.
+    #[inline(always)]
+    #[tactic(auto, using(crate::proofs::Spelling::spelling_steps))]
+    fn put_escaped_octets(&mut self, octets: &[u8])
         requires { 4 * length octets.now ≤ line_room self.old }
         ensures text { line_text self.new ≡ escaped octets.now ++ line_text self.old }
         ensures room { line_room self.old ≤ line_room self.new + 4 * length octets.now }

@@ -12,8 +12,9 @@ ghost use Rattle.giop_run.specs.Performing.{HasPerformed, HasSaved, task_of};
 ghost use Rattle.giop_program.specs.Words.{asked_of};
 
 use super::arguments::Arguments;
+use giop_print::Flush;
 use giop_run::{
-    Disk, Ending, Flush, Inputs, Lines, ProgramError, Report, Retrying, RunFault, Saves, Source,
+    Disk, Ending, Inputs, Lines, ProgramError, Report, Retrying, RunFault, Saves, Source,
     catalogue, command_line_words, dump, open_file, print_clap_error, print_fault, requests,
     resume, status,
 };

@@ -3,7 +3,7 @@
 use Rattle.std.proofs.Common.{ℕ, List, [], Option, Some, None, ◌∙◌, append-nil, sym, arith}
 use Rattle.std.specs.Io.KnownBytes.{Appends, Keeps}
 use Rattle.giop_print.specs.Output.{OutLog, Wrote, WroteFront}
-use Rattle.giop_run.specs.Flushing.{Flushed, FlushFailed}
+use Rattle.giop_print.specs.Flushing.{Flushed, FlushFailed}
 
 appends_kept : (a b c : Option (List ℕ)) (due : List ℕ) → Appends a b due → Keeps b c →
     Appends a c due

@@ -10,7 +10,7 @@ use Rattle.giop_stream.specs.EngineView.{EngineView}
 use Rattle.giop_print.proofs.Writing.{wrote-append, wrote-front, front-append, wrote-nil}
 use Rattle.giop_run.specs.SourceLog.{SourceLog}
 use Rattle.giop_run.specs.Running.{GivenByReads, SourceOrStreamEnded, ReadsSpent, Ran, RunSetup, setup_of, run_rules, end_text}
-use Rattle.giop_run.specs.Flushing.{Flushed, FlushFailed}
+use Rattle.giop_print.specs.Flushing.{Flushed, FlushFailed}
 use Rattle.giop_run.specs.RunSteps.{HasFed, HasFedPiece, FailedBeforeEnd, OneRead, HasReadAndFed, ReadToEnd, PutFailed, FinishedStream, HasEndedRun, HasFedReads}
 use Rattle.giop_stream.specs.declared.status.Totals.{Totals}
 use Rattle.giop_run.specs.declared.running.Ending.TheVariants as endings

@@ -16,7 +16,8 @@ lines_kept_back l = buffered l.buffer
 
 -- the log of lines: what the writer has, and after it the octets that are kept back; and all puts,
 -- of which a count of 2^64 - 1 stays. `contents` is the writer's log
-abbrev pub lines_log : {W : Type 0} (contents : W → Option (List ℕ)) (l : Lines W) → OutLog
+abbrev pub lines_log : {W : Type 0} (writer_contents : W → Option (List ℕ)) (lines : Lines W) →
+    OutLog
 lines_log contents l = record {
   written = append_known (contents l.writer) (lines_kept_back l);
   puts = min (l.puts + l.buffer.recent) (2 ^ 64 - 1);

@@ -11,11 +11,11 @@ use Rattle.giop_run.specs.declared.fault.ProgramError.{ProgramError}
 use Rattle.giop_run.specs.declared.fault.ProgramError.TheVariants as faults
 
 -- a run whose engine held p did this with a source of these octets and an out
-pub record Dumped (setup : RunSetup) (ran : Result Report RunFault) (stream : List ℕ)
-    (given : Option (List ℕ)) (old new : OutLog) : Type 0 where
+pub record Dumped (setup : RunSetup) (ran : Result Report RunFault) (stream_held : List ℕ)
+    (source_octets : Option (List ℕ)) (old new : OutLog) : Type 0 where
   pub octets : List ℕ
   pub after : SourceLog
-  pub did : Ran setup ran stream octets (unread_source given) after old new
+  pub did : Ran setup ran stream_held octets (unread_source source_octets) after old new
 
 -- the status of a failure: 2 if the words of the command line are no text, 3 if a file is refused,
 -- 4 if a file can't be read or written or a run failed, 5 if there is no memory

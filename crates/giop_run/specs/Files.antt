@@ -36,7 +36,8 @@ CannotRead refuses name why = (kind : ErrorKind) × refuses name kind × HasReas
 
 -- the text is what is read of a file that may have at most `most` octets: all of it, or its first
 -- `most` + 1 octets
-abbrev pub IsReadToOneOver : (most : ℕ) (held : Option (List ℕ)) (text : List ℕ) → Type 0
+abbrev pub IsReadToOneOver : (most_octets : ℕ) (file_octets : Option (List ℕ))
+    (text_read : List ℕ) → Type 0
 IsReadToOneOver most held text = IfSome held (λ octets. text ≡ take (saturating_next most) octets)
 
 -- the greatest sizes, in octets, of a signature file, of a request list and of a checkpoint
@@ -61,24 +62,24 @@ pub record Declares (latest_version : ℕ) (text : List ℕ) (C : Table) : Type 
   pub valid : IsValid file
   pub is : C ≡ table file
 
--- the text is a request list for a catalogue, and `kept` is its request table for the catalogue's
--- operations
-pub record ListsRequests (text : List ℕ) (C : Table) (kept : RequestTable) : Type 0 where
+-- the text is a request list for a catalogue, and the request table is that of the list for the
+-- catalogue's operations
+pub record ListsRequests (text : List ℕ) (C : Table) (request_table : RequestTable) : Type 0 where
   pub entries : List Entry
   pub lists : Lists (allows_third_word C) text entries
-  pub is : AgreesWithList (asked_number C) entries kept
+  pub is : AgreesWithList (asked_number C) entries request_table
 
 -- the catalogue of the signature file, or of the built-in types if there is no file
-abbrev pub CatalogueOf : (held : KnownFiles) (latest_version : ℕ) (name : Option (List ℕ))
-    (C : Table) → Type 0
+abbrev pub CatalogueOf : (held : KnownFiles) (latest_version : ℕ)
+    (signature_file_name : Option (List ℕ)) (C : Table) → Type 0
 CatalogueOf held latest_version None C = C ≡ builtin_table
 CatalogueOf held latest_version (Some name) C =
     (text : List ℕ) × IsReadToOneOver signatures_most (held name) text × Declares latest_version
     text C
 
 -- the request table of the request file, or the empty table if there is no file
-abbrev pub RequestsOf : (held : KnownFiles) (name : Option (List ℕ)) (C : Table)
-    (kept : RequestTable) →
+abbrev pub RequestsOf : (held : KnownFiles) (request_file_name : Option (List ℕ)) (C : Table)
+    (request_table : RequestTable) →
     Type 0
 RequestsOf held None C kept = kept ≡ []
 RequestsOf held (Some name) C kept =
@@ -87,8 +88,9 @@ RequestsOf held (Some name) C kept =
 -- If there is a checkpoint file, `Is` holds of each stream that the file's octets are a checkpoint
 -- of, with its number of open messages. If there is no file, `Is` holds of the empty stream, with
 -- the number that the arguments ask for.
-abbrev pub HoldsOfResumed : (held : KnownFiles) (name : Option (List ℕ)) (most : ℕ) (C : Table)
-    (kept : RequestTable) (Is : ℕ → List ℕ → Type 0) → Type 0
+abbrev pub HoldsOfResumed : (held : KnownFiles) (checkpoint_file_name : Option (List ℕ))
+    (most_open_for_new_stream : ℕ) (C : Table) (request_table : RequestTable)
+    (HoldsOfMostAndStream : ℕ → List ℕ → Type 0) → Type 0
 HoldsOfResumed held None most C kept Is = Is most []
 HoldsOfResumed held (Some name) most C kept Is =
     (octets : List ℕ) × IsReadToOneOver checkpoint_most (held name) octets
@@ -96,7 +98,7 @@ HoldsOfResumed held (Some name) most C kept Is =
     × ((n : ℕ) (p : List ℕ) → Spells octets C kept n p → Is n p)
 
 -- the octets of the stream: those of the file, or those of standard input if there is no file
-abbrev pub stream_octets : (held : KnownFiles) (standard_input name : Option (List ℕ)) →
+abbrev pub stream_octets : (held : KnownFiles) (standard_input stream_file_name : Option (List ℕ)) →
     Option (List ℕ)
 stream_octets held given None = given
 stream_octets held given (Some name) = held name
@@ -104,7 +106,7 @@ stream_octets held given (Some name) = held name
 -- why there is no catalogue: there is no memory, or the signature file can't be read, or it is
 -- refused; the fault has the file's name, and tells what its text looks like
 abbrev pub NoCatalogue : (held : KnownFiles) (refuses : FileErrors) (latest_version : ℕ)
-    (asked : Option (List ℕ))
+    (signature_file_name : Option (List ℕ))
     (fault : ProgramError) → Type 0
 NoCatalogue held refuses latest_version asked (faults.Signatures name why look) =
     (asked ≡ Some name.now)
@@ -124,7 +126,7 @@ NoCatalogue held refuses latest_version asked (faults.Run why) = ⊥
 -- why there is no request list for a catalogue: there is no memory, or the request file can't be
 -- read, or it is refused; the fault has the file's name
 abbrev pub NoRequests : (held : KnownFiles) (refuses : FileErrors) (C : Table)
-    (asked : Option (List ℕ))
+    (request_file_name : Option (List ℕ))
     (fault : ProgramError) → Type 0
 NoRequests held refuses C asked (faults.Requests name why) =
     (asked ≡ Some name.now)
@@ -141,8 +143,8 @@ NoRequests held refuses C asked (faults.Run why) = ⊥
 
 -- why no checkpoint is loaded: there is no memory, or its file can't be read, or it is refused; the
 -- fault has the file's name
-abbrev pub NoCheckpoint : (held : KnownFiles) (refuses : FileErrors) (asked : Option (List ℕ))
-    (counts : Counts) (fault : ProgramError) → Type 0
+abbrev pub NoCheckpoint : (held : KnownFiles) (refuses : FileErrors)
+    (checkpoint_file_name : Option (List ℕ)) (counts : Counts) (fault : ProgramError) → Type 0
 NoCheckpoint held refuses asked counts (faults.Checkpoint name why) =
     (asked ≡ Some name.now)
     × ((octets : List ℕ) × IsReadToOneOver checkpoint_most (held name.now) octets
@@ -158,8 +160,8 @@ NoCheckpoint held refuses asked counts (faults.Run why) = ⊥
 
 -- why the stream isn't opened: there is no memory, or its file can't be opened; the fault has the
 -- file's name
-abbrev pub NoStream : (refuses : FileErrors) (asked : Option (List ℕ)) (fault : ProgramError) →
-    Type 0
+abbrev pub NoStream : (refuses : FileErrors) (stream_file_name : Option (List ℕ))
+    (fault : ProgramError) → Type 0
 NoStream refuses asked (faults.Unreadable name why) =
     (asked ≡ Some name.now) × CannotRead refuses name.now why
 NoStream refuses asked faults.OutOfMemory = Unit {0}
@@ -182,20 +184,21 @@ pub record Asked : Type 0 where
   pub stream : Option (List ℕ)
 
 -- how a run ends: its engine is kept if the arguments name a file to save
-abbrev pub ending_by_save : (save : Option (List ℕ)) → Ending
+abbrev pub ending_by_save : (save_file_name : Option (List ℕ)) → Ending
 ending_by_save None = endings.Finish
 ending_by_save (Some name) = endings.Keep
 
 -- the setup of a run: its tables, the number of messages that may be open, and how it ends
-abbrev pub setup_by : (C : Table) (kept : RequestTable) (count : ℕ) (asked : Asked) → RunSetup
+abbrev pub setup_by : (C : Table) (request_table : RequestTable) (most_open_messages : ℕ)
+    (asked : Asked) → RunSetup
 setup_by C kept count asked =
     record { table = C; request_table = kept; most = count; ending = ending_by_save asked.save }
 
 -- the catalogue and the request table are those of the files
 pub record ReadsBy (held : KnownFiles) (asked : Asked) (C : Table)
-    (kept : RequestTable) : Type 0 where
+    (request_table : RequestTable) : Type 0 where
   pub catalogue : CatalogueOf held asked.latest_version asked.signatures C
-  pub requests : RequestsOf held asked.requests C kept
+  pub requests : RequestsOf held asked.requests C request_table
 
 -- a step before the run failed for this reason; the steps before it succeeded
 abbrev pub StepFailed : (held : KnownFiles) (refuses : FileErrors) (asked : Asked)

@@ -1,5 +1,4 @@
 pub mod SourceLog
-pub mod Flushing
 pub mod Piecewise
 pub mod ReaderLog
 pub mod Retrying

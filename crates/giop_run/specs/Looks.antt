@@ -11,7 +11,7 @@ use Rattle.giop_run.specs.declared.reason.Reason.{Reason}
 use Rattle.giop_run.specs.declared.reason.Reason.TheVariants as reasons
 
 -- whether a text begins with these octets
-unfoldable pub begins_with : (octets text : List ℕ) → Bool
+unfoldable pub begins_with : (beginning text : List ℕ) → Bool
 begins_with octets text = starts_with nat_eq text octets
 
 -- whether a text begins as pcap does, in either byte order, with microseconds or nanoseconds, or as

@@ -24,7 +24,7 @@ pub record Task : Type 1 where
   pub given : Option (List ℕ)
   pub asked : Asked
 
-abbrev pub task_of : (held : KnownFiles) (refuses : FileErrors) (given : Option (List ℕ))
+abbrev pub task_of : (held : KnownFiles) (refuses : FileErrors) (standard_input : Option (List ℕ))
     (asked : Asked) → Task
 task_of held refuses given asked =
     record { held = held; refuses = refuses; given = given; asked = asked }
@@ -43,8 +43,8 @@ pub record Performed (task : Task) (ran : Result Report RunFault) (old new : Out
 
 -- the checkpoint of the engine that was kept is saved in the file that the arguments name; if they
 -- name none, nothing is saved
-abbrev pub SavedIn : (name : Option (List ℕ)) (kept : Option EngineView)
-    (old new : Option (List Saved)) → Type 0
+abbrev pub SavedIn : (save_file_name : Option (List ℕ)) (kept_engine : Option EngineView)
+    (saved_before saved_after : Option (List Saved)) → Type 0
 SavedIn None kept old new = new ≡ old
 SavedIn (Some name) None old new = ⊥
 SavedIn (Some name) (Some e) old new = SavedOneMore old new name e
@@ -63,8 +63,8 @@ pub record RunHasFailed (task : Task) (why : RunFault) (old new : OutLog) : Type
   pub run : Performed task (Err why) old new
 
 -- The run succeeded, but the file for its checkpoint can't be written.
-pub record RunIsUnsaved (task : Task) (name : List ℕ) (old new : OutLog) : Type 0 where
-  pub named : task.asked.save ≡ Some name
+pub record RunIsUnsaved (task : Task) (save_file_name : List ℕ) (old new : OutLog) : Type 0 where
+  pub named : task.asked.save ≡ Some save_file_name
   pub report : Report
   pub run : Performed task (Ok report) old new
 
@@ -75,7 +75,7 @@ pub record NotRun (task : Task) (why : ProgramError) (old new : OutLog) : Type 0
 
 -- what the program did, by the fault with which it failed; the engine of its run is never one that
 -- had failed
-abbrev pub FailedBy : (t : Task) (fault : ProgramError) (old new : OutLog) → Type 0
+abbrev pub FailedBy : (task : Task) (fault : ProgramError) (old new : OutLog) → Type 0
 FailedBy t (faults.Run fault.Failed) old new = ⊥
 FailedBy t (faults.Run fault.Read) old new = RunHasFailed t fault.Read old new
 FailedBy t (faults.Run fault.Turns) old new = RunHasFailed t fault.Turns old new
@@ -90,7 +90,7 @@ FailedBy t (faults.Unreadable name why) old new = NotRun t (faults.Unreadable na
 FailedBy t faults.OutOfMemory old new = NotRun t faults.OutOfMemory old new
 
 -- what the program did, by its result; if it failed, nothing is saved
-abbrev pub HasPerformed : (t : Task) (result : Result Totals ProgramError) (old new : OutLog)
+abbrev pub HasPerformed : (task : Task) (result : Result Totals ProgramError) (old new : OutLog)
     (saved_before saved_after : Option (List Saved)) → Type 0
 HasPerformed t (Ok totals) old new saved_before saved_after =
     PerformedAndSaved t totals old new saved_before saved_after
@@ -99,8 +99,8 @@ HasPerformed t (Err why) old new saved_before saved_after =
 
 -- what the last step did: its result is the run's, or the fault that the file which the arguments
 -- name can't be written
-abbrev pub HasSaved : (asked : Option (List ℕ)) (ran : Result Report ProgramError)
-    (result : Result Totals ProgramError) (old new : Option (List Saved)) → Type 0
+abbrev pub HasSaved : (save_file_name : Option (List ℕ)) (ran : Result Report ProgramError)
+    (result : Result Totals ProgramError) (saved_before saved_after : Option (List Saved)) → Type 0
 HasSaved asked (Ok report) (Ok totals) old new =
     (totals ≡ report.totals) × SavedIn asked report.kept old new
 HasSaved asked (Ok report) (Err why) old new =

@@ -26,16 +26,16 @@ abbrev pub IsOfWriting : RunFault → Type 0
 IsOfWriting why = (why ≡ fault.Out) ⊎ (why ≡ fault.Failed)
 
 -- the octets s were fed to an engine that held p and reads by R, and their lines were written
-pub record HasFed (R : Rules) (stream octets : List ℕ) (engine : EngineView)
+pub record HasFed (R : Rules) (stream_before octets_fed : List ℕ) (engine_after : EngineView)
     (old new : OutLog) : Type 0 where
-  pub reads : rules_of engine ≡ R
-  pub holds : Holds engine (stream ++ octets)
-  pub written : Wrote old new (added R stream octets)
+  pub reads : rules_of engine_after ≡ R
+  pub holds : Holds engine_after (stream_before ++ octets_fed)
+  pub written : Wrote old new (added R stream_before octets_fed)
 
 -- what the feed of the octets did to an engine that held the stream; the result is true if the
 -- stream goes on
-abbrev pub HasFedPiece : (R : Rules) (result : Result Bool RunFault) (stream octets : List ℕ)
-    (engine : EngineView) (old new : OutLog) → Type 0
+abbrev pub HasFedPiece : (R : Rules) (result : Result Bool RunFault)
+    (stream_before octets_fed : List ℕ) (engine_after : EngineView) (old new : OutLog) → Type 0
 HasFedPiece R (Ok true) stream octets engine old new =
     HasFed R stream octets engine old new × HasNoStreamFault (stream ++ octets)
 HasFedPiece R (Ok false) stream octets engine old new =
@@ -47,16 +47,17 @@ HasFedPiece R (Err fault.Turns) stream octets engine old new = ⊥
 HasFedPiece R (Err fault.Failed) stream octets engine old new = ⊥
 
 -- one read, of at most 4096 octets, gave the octets s
-pub record OneRead (given : List ℕ) (before after : SourceLog) : Type 0 where
-  pub left : Consumes before.left after.left given
-  pub octets : AreOctets given
-  pub within : length given ≤ 4096
+pub record OneRead (octets_given : List ℕ) (before after : SourceLog) : Type 0 where
+  pub left : Consumes before.left after.left octets_given
+  pub octets : AreOctets octets_given
+  pub within : length octets_given ≤ 4096
   pub reads : after.reads ≡ saturating_next before.reads
 
 -- what one read and the feed of its octets did to an engine that held the stream; the result is
 -- true if the stream goes on
-abbrev pub HasReadAndFed : (R : Rules) (result : Result Bool RunFault) (stream octets : List ℕ)
-    (engine : EngineView) (before after : SourceLog) (old new : OutLog) → Type 0
+abbrev pub HasReadAndFed : (R : Rules) (result : Result Bool RunFault)
+    (stream_before octets_given : List ℕ) (engine_after : EngineView) (before after : SourceLog)
+    (old new : OutLog) → Type 0
 HasReadAndFed R (Ok true) stream octets engine before after old new =
     OneRead octets before after × (after.failures ≡ before.failures) × (after.ends ≡ before.ends)
     × HasFed R stream octets engine old new × HasNoStreamFault (stream ++ octets)
@@ -75,24 +76,24 @@ HasReadAndFed R (Err fault.Turns) stream octets engine before after old new = �
 HasReadAndFed R (Err fault.Failed) stream octets engine before after old new = ⊥
 
 -- the source is at its end, or the stream has a fault, and all that the source gave was fed
-pub record ReadToEnd (R : Rules) (stream octets : List ℕ) (engine : EngineView)
+pub record ReadToEnd (R : Rules) (stream_before octets_given : List ℕ) (engine_after : EngineView)
     (before after : SourceLog)
     (old new : OutLog) : Type 0 where
-  pub given : GivenByReads stream octets before after
-  pub over : SourceOrStreamEnded (stream ++ octets) before after
+  pub given : GivenByReads stream_before octets_given before after
+  pub over : SourceOrStreamEnded (stream_before ++ octets_given) before after
   pub failures : after.failures ≡ before.failures
-  pub fed : HasFed R stream octets engine old new
+  pub fed : HasFed R stream_before octets_given engine_after old new
 
 -- a put failed, and a front of the lines of what was read is written
-pub record PutFailed (R : Rules) (stream octets : List ℕ) (before after : SourceLog)
+pub record PutFailed (R : Rules) (stream_before octets_given : List ℕ) (before after : SourceLog)
     (old new : OutLog) : Type 0
   where
-    pub given : GivenByReads stream octets before after
+    pub given : GivenByReads stream_before octets_given before after
     pub failures : after.failures ≡ before.failures
-    pub written : WroteFront old new (added R stream octets)
+    pub written : WroteFront old new (added R stream_before octets_given)
 
 -- how a run failed before its end, by its fault
-abbrev pub FailedBeforeEnd : (R : Rules) (fault : RunFault) (stream octets : List ℕ)
+abbrev pub FailedBeforeEnd : (R : Rules) (fault : RunFault) (stream_before octets_given : List ℕ)
     (before after : SourceLog) (old new : OutLog) → Type 0
 FailedBeforeEnd R fault.Read stream octets before after old new =
     ReadStopped R stream octets before after old new
@@ -104,8 +105,8 @@ FailedBeforeEnd R fault.Failed stream octets before after old new = ⊥
 
 -- what the feed of all that the source gave did to an engine that held the stream
 abbrev pub HasFedSource : {A : Type 0} (R : Rules) (result : Result A RunFault)
-    (stream octets : List ℕ)
-    (engine : EngineView) (before after : SourceLog) (old new : OutLog) → Type 0
+    (stream_before octets_given : List ℕ)
+    (engine_after : EngineView) (before after : SourceLog) (old new : OutLog) → Type 0
 HasFedSource R (Ok done) stream octets engine before after old new =
     ReadToEnd R stream octets engine before after old new
 HasFedSource R (Err why) stream octets engine before after old new =
@@ -128,7 +129,7 @@ FinishedStream R (Err fault.Turns) stream old new = ⊥
 FinishedStream R (Err fault.Failed) stream old new = ⊥
 
 -- what the end of a run did, if the run's engine held the stream
-abbrev pub HasEndedRun : (w : RunSetup) (result : Result Report RunFault) (stream : List ℕ)
+abbrev pub HasEndedRun : (setup : RunSetup) (result : Result Report RunFault) (stream : List ℕ)
     (old new : OutLog) → Type 0
 HasEndedRun w (Ok report) stream old new = RunHasEnded w report stream old new
 HasEndedRun w (Err fault.Out) stream old new =
@@ -139,15 +140,14 @@ HasEndedRun w (Err fault.Failed) stream old new = ⊥
 
 -- k reads, and the feeds of their octets, did this to an engine that held p; the stream goes on
 -- after each of them
-pub record HasFedReads (R : Rules) (stream octets_given : List ℕ) (engine : EngineView) (count : ℕ)
-    (before after : SourceLog)
-    (old new : OutLog) : Type 0 where
-  pub began : HasNoStreamFault stream
-  pub running : HasNoStreamFault (stream ++ octets_given)
-  pub took : HasFed R stream octets_given engine old new
-  pub left : Consumes before.left after.left octets_given
-  pub octets : AreOctets octets_given
-  pub reads : after.reads ≤ before.reads + count
-  pub exact : before.reads + count < 2 ^ 64 → after.reads ≡ before.reads + count
+pub record HasFedReads (R : Rules) (stream_before octets_fed : List ℕ) (engine_after : EngineView)
+    (read_count : ℕ) (before after : SourceLog) (old new : OutLog) : Type 0 where
+  pub began : HasNoStreamFault stream_before
+  pub running : HasNoStreamFault (stream_before ++ octets_fed)
+  pub took : HasFed R stream_before octets_fed engine_after old new
+  pub left : Consumes before.left after.left octets_fed
+  pub octets : AreOctets octets_fed
+  pub reads : after.reads ≤ before.reads + read_count
+  pub exact : before.reads + read_count < 2 ^ 64 → after.reads ≡ before.reads + read_count
   pub failures : after.failures ≡ before.failures
   pub ends : after.ends ≡ before.ends

@@ -45,7 +45,7 @@ end_text endings.Finish R stream = closing R stream
 end_text endings.Keep R stream = []
 
 -- whether the report of a run has an engine, by the ending
-abbrev pub HasKept : (ending : Ending) (kept : Option EngineView) → Type 0
+abbrev pub HasKept : (ending : Ending) (kept_engine : Option EngineView) → Type 0
 HasKept endings.Finish kept = kept ≡ None
 HasKept endings.Keep kept = IsSome kept
 
@@ -63,7 +63,8 @@ pub record IsKept (setup : RunSetup) (report : Report) (stream : List ℕ) : Typ
   pub same : setup_of engine setup.ending ≡ setup
 
 -- what the report says of the stream, by the ending
-abbrev pub EndsAs : (ending : Ending) (w : RunSetup) (report : Report) (stream : List ℕ) → Type 0
+abbrev pub EndsAs : (ending : Ending) (setup : RunSetup) (report : Report) (stream : List ℕ) →
+    Type 0
 EndsAs endings.Finish w report stream = IsFinish w report stream
 EndsAs endings.Keep w report stream = IsKept w report stream
 
@@ -72,20 +73,21 @@ abbrev pub HasStreamFault : (stream : List ℕ) → Type 0
 HasStreamFault stream = IsSome (cut stream).stop
 
 -- the octets s end with those of one read, at most 4096; before that read the stream had no fault
-pub record EndsWithOneRead (stream given : List ℕ) : Type 0 where
+pub record EndsWithOneRead (stream_before octets_given : List ℕ) : Type 0 where
   pub earlier : List ℕ
   pub last : List ℕ
-  pub whole : given ≡ earlier ++ last
+  pub whole : octets_given ≡ earlier ++ last
   pub room : length last ≤ 4096
-  pub running : ¬ HasStreamFault (stream ++ earlier)
+  pub running : ¬ HasStreamFault (stream_before ++ earlier)
 
 -- the source gave the octets s in at most 2^40 reads, and there was no read after a stream fault
-pub record GivenByReads (stream octets_given : List ℕ) (before after : SourceLog) : Type 0 where
+pub record GivenByReads (stream_before octets_given : List ℕ) (before after : SourceLog)
+    : Type 0 where
   pub left : Consumes before.left after.left octets_given
   pub octets : AreOctets octets_given
   pub reads : after.reads ≤ before.reads + 2 ^ 40
-  pub none : HasStreamFault stream → (octets_given ≡ []) × (after ≡ before)
-  pub stops : ¬ HasStreamFault stream → EndsWithOneRead stream octets_given
+  pub none : HasStreamFault stream_before → (octets_given ≡ []) × (after ≡ before)
+  pub stops : ¬ HasStreamFault stream_before → EndsWithOneRead stream_before octets_given
 
 -- a read returned 0, and nothing is left in the source
 pub record ReadFoundEnd (before after : SourceLog) : Type 0 where
@@ -98,47 +100,48 @@ SourceOrStreamEnded stream before after = ReadFoundEnd before after ⊎ HasStrea
 
 -- the source is at its end, or the stream has a fault; the lines are written, and the report is as
 -- the ending requires
-pub record Finished (setup : RunSetup) (report : Report) (stream octets : List ℕ)
+pub record Finished (setup : RunSetup) (report : Report) (stream_before octets_given : List ℕ)
     (before after : SourceLog)
     (old new : OutLog) : Type 0 where
-  pub given : GivenByReads stream octets before after
-  pub over : SourceOrStreamEnded (stream ++ octets) before after
+  pub given : GivenByReads stream_before octets_given before after
+  pub over : SourceOrStreamEnded (stream_before ++ octets_given) before after
   pub failures : after.failures ≡ before.failures
-  pub written : Wrote old new (added (run_rules setup) stream octets ++ end_text setup.ending
-      (run_rules setup) (stream ++ octets))
-  pub ended : EndsAs setup.ending setup report (stream ++ octets)
+  pub written : Wrote old new
+      (added (run_rules setup) stream_before octets_given
+      ++ end_text setup.ending (run_rules setup) (stream_before ++ octets_given))
+  pub ended : EndsAs setup.ending setup report (stream_before ++ octets_given)
 
 -- a read failed; the lines of what was read are written, and no closing
-pub record ReadStopped (R : Rules) (stream octets : List ℕ) (before after : SourceLog)
+pub record ReadStopped (R : Rules) (stream_before octets_given : List ℕ) (before after : SourceLog)
     (old new : OutLog) : Type 0
   where
-    pub given : GivenByReads stream octets before after
+    pub given : GivenByReads stream_before octets_given before after
     pub failures : after.failures ≡ saturating_next before.failures
-    pub written : Wrote old new (added R stream octets)
+    pub written : Wrote old new (added R stream_before octets_given)
 
 -- all reads were used up; the lines of what was read are written, and no closing
-pub record ReadsSpent (R : Rules) (stream octets : List ℕ) (before after : SourceLog)
+pub record ReadsSpent (R : Rules) (stream_before octets_given : List ℕ) (before after : SourceLog)
     (old new : OutLog) : Type 0
   where
-    pub given : GivenByReads stream octets before after
+    pub given : GivenByReads stream_before octets_given before after
     pub reads : before.reads + 2 ^ 40 < 2 ^ 64 → after.reads ≡ before.reads + 2 ^ 40
     pub failures : after.failures ≡ before.failures
     pub ends : after.ends ≡ before.ends
-    pub running : ¬ HasStreamFault (stream ++ octets)
-    pub written : Wrote old new (added R stream octets)
+    pub running : ¬ HasStreamFault (stream_before ++ octets_given)
+    pub written : Wrote old new (added R stream_before octets_given)
 
 -- a put failed, and a front of what was due is written
-pub record WriteStopped (setup : RunSetup) (stream octets : List ℕ) (before after : SourceLog)
-    (old new : OutLog) :
-    Type 0 where
-  pub given : GivenByReads stream octets before after
+pub record WriteStopped (setup : RunSetup) (stream_before octets_given : List ℕ)
+    (before after : SourceLog) (old new : OutLog) : Type 0 where
+  pub given : GivenByReads stream_before octets_given before after
   pub failures : after.failures ≡ before.failures
-  pub written : WroteFront old new (added (run_rules setup) stream octets ++ end_text setup.ending
-      (run_rules setup) (stream ++ octets))
+  pub written : WroteFront old new
+      (added (run_rules setup) stream_before octets_given
+      ++ end_text setup.ending (run_rules setup) (stream_before ++ octets_given))
 
 -- what a run did, by its result; it never fails with Failed if its engine held a stream
-abbrev pub Ran : (w : RunSetup) (result : Result Report RunFault) (stream octets : List ℕ)
-    (before after : SourceLog) (old new : OutLog) → Type 0
+abbrev pub Ran : (setup : RunSetup) (result : Result Report RunFault)
+    (stream_before octets_given : List ℕ) (before after : SourceLog) (old new : OutLog) → Type 0
 Ran w (Ok report) stream octets before after old new =
     Finished w report stream octets before after old new
 Ran w (Err fault.Read) stream octets before after old new =

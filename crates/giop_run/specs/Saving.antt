@@ -11,20 +11,21 @@ pub record Saved : Type 0 where
   pub octets : List ℕ
 
 -- These octets are the checkpoint of each stream that the engine holds.
-abbrev pub SpellsAll : (e : EngineView) (octets : List ℕ) → Type 0
+abbrev pub SpellsAll : (engine : EngineView) (checkpoint_octets : List ℕ) → Type 0
 SpellsAll e octets = (p : List ℕ) → Holds e p → Spells octets e.table e.request_table e.most p
 
 -- a checkpoint of the engine was saved in the file of this name, if the saved files are known
-abbrev pub SavedOneMore : (before after : Option (List Saved)) (name : List ℕ) (e : EngineView) →
-    Type 0
+abbrev pub SavedOneMore : (saved_before saved_after : Option (List Saved)) (file_name : List ℕ)
+    (engine : EngineView) → Type 0
 SavedOneMore None after name e = Unit {0}
 SavedOneMore (Some before) after name e =
     (octets : List ℕ) × SpellsAll e octets
     × (after ≡ Some (before ++ record { name = name; octets = octets } ∷ []))
 
 -- what a save did: the engine's checkpoint is in the file of this name, or nothing was saved
-abbrev pub SavesOne : {A E : Type 0} (result : Result A E) (before after : Option (List Saved))
-    (name : List ℕ) (e : EngineView) → Type 0
+abbrev pub SavesOne : {A E : Type 0} (result : Result A E)
+    (saved_before saved_after : Option (List Saved)) (file_name : List ℕ) (engine : EngineView) →
+    Type 0
 SavesOne result before after name e =
     MatchResult result (λ _. SavedOneMore before after name e) (λ _. after ≡ before)
 

@@ -6,9 +6,10 @@ ghost use Rattle.giop_run.specs.Running.{DidNothing, HasKept, Ran, setup_of};
 ghost use Rattle.giop_run.specs.Console.{exit_status};
 
 use super::fault::{ProgramError, RunFault};
-use super::flush::{Flush, FlushesOut};
+use super::flush::FlushesOut;
 use super::running::{Ending, Report, run_with_flushes};
 use super::source::Source;
+use giop_print::Flush;
 use giop_stream::{Engine, Totals};
 
 /// Runs an engine as `run` does, and flushes the lines before each read and at the end. If a flush fails, the run fails as

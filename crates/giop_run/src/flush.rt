@@ -1,19 +1,9 @@
-//! Outs that keep octets back until they are flushed, and whether a run flushes its out.
+//! Whether a run flushes its out.
 
 ghost use Rattle.std.specs.Prelude.{ℕ, List, []};
-ghost use Rattle.giop_run.specs.Flushing.{Flushes};
+ghost use Rattle.giop_print.specs.Flushing.{Flushes};
 
-use giop_print::{Out, OutFault};
-
-/// An out that may keep octets back until it is flushed.
-pub trait Flush: Out {
-    /// The octets that it keeps back.
-    ghost kept: { Self → List ℕ };
-
-    /// Writes the octets that it keeps back.
-    fn flush(&mut self) -> Result<(), OutFault>
-        ensures { Flushes result (Self.log self.old) (Self.log self.new) (kept self.new) };
-}
+use giop_print::{Flush, Out, OutFault};
 
 /// What a run does to its out before each read and at the end.
 pub(crate) trait BetweenReads<O: Out> {

@@ -27,7 +27,6 @@ pub use command_line::{command_line_words, print_clap_error, print_fault, print_
 pub use console::{dump, status};
 pub use fault::{ProgramError, RunFault, SourceFault};
 pub use files::{catalogue, open_file, read_to_one_over, requests};
-pub use flush::Flush;
 pub use inputs::Inputs;
 pub use joint::joint_catalogue;
 pub use lines::Lines;

@@ -5,9 +5,8 @@ ghost use Rattle.std.specs.Io.KnownBytes.{Appends, Keeps, append_known};
 ghost use Rattle.giop_print.specs.Output.{Took, Failed, Writes};
 
 use super::buffer::{Buffer, ROOM};
-use super::flush::Flush;
 use super::source::saturating_add_one;
-use giop_print::{Line, Out, OutFault};
+use giop_print::{Flush, Line, Out, OutFault};
 use std::alloc::{AllocError, Global};
 use std::io::Write;
 

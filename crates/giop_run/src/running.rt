@@ -5,7 +5,7 @@ ghost use Rattle.giop_print.specs.Output.{saturating_next};
 ghost use Rattle.giop_cdr.specs.Numbers.{AreOctets};
 ghost use Rattle.giop_stream.specs.EngineHolds.{Holds, rules_of};
 ghost use Rattle.giop_run.specs.SourceLog.{ReadGave, ReadFailed};
-ghost use Rattle.giop_run.specs.Flushing.{Flushes};
+ghost use Rattle.giop_print.specs.Flushing.{Flushes};
 ghost use Rattle.giop_run.specs.Running.{DidNothing, HasKept, Ran, setup_of};
 ghost use Rattle.giop_run.specs.RunSteps.{HasFedPiece, HasFedSource, HasReadAndFed, IsOfWriting, FinishedStream, HasEndedRun};
 

@@ -10,15 +10,15 @@ use Rattle.giop_sig.specs.Table as nodes
 use Rattle.giop_sig.specs.Builtin.{builtin_table, builtin_types, compound_types, leaf_types, member, numbers_with_names}
 
 -- what comes after some kinds of a TypeCode: the kinds, its name, and its type
-abbrev pub case_after_kinds : (kinds name : List ℕ) (type : ℕ) → Case
+abbrev pub case_after_kinds : (typecode_kinds part_name : List ℕ) (part_type_number : ℕ) → Case
 case_after_kinds kinds name type = record { labels = map Unsigned kinds; part = member name type }
 
 -- most kinds have their parameters in an encapsulation
-abbrev pub parameters_case : (kinds : List ℕ) (type : ℕ) → Case
+abbrev pub parameters_case : (typecode_kinds : List ℕ) (parameters_type_number : ℕ) → Case
 parameters_case kinds type = case_after_kinds kinds (codes "parameters") type
 
 -- the cases of a TypeCode, from the types of the parameters of a sequence and of an alias
-abbrev pub typecode_cases : (sequence_data alias_data : ℕ) → List Case
+abbrev pub typecode_cases : (sequence_parameters_type alias_parameters_type : ℕ) → List Case
 typecode_cases sequence_data alias_data =
     parameters_case (14 ∷ 31 ∷ 32 ∷ 33 ∷ 34 ∷ 35 ∷ []) NAMED_DATA
     ∷ parameters_case (15 ∷ 22 ∷ []) STRUCT_DATA
@@ -35,7 +35,7 @@ typecode_cases sequence_data alias_data =
     ∷ []
 
 -- an id and a name, and then other members
-abbrev pub id_name_and_more : (more : List Part) → Node
+abbrev pub id_name_and_more : (members_after_id_and_name : List Part) → Node
 id_name_and_more more =
     nodes.members (member (codes "id") STRING ∷ member (codes "name") STRING ∷ more)
 
@@ -110,10 +110,10 @@ unfoldable pub version_3_types : List Node
 version_3_types = leaf_types ++ numbers_with_names ++ compound_types ++ any_types
 
 -- the types that a file of a version begins with
-abbrev pub first_types : (version : ℕ) → List Node
+abbrev pub first_types : (file_version : ℕ) → List Node
 first_types version = cond (version == 3) version_3_types builtin_types
 
 -- the table of a file of a version, without declarations
-abbrev pub first_table : (version : ℕ) → Table
+abbrev pub first_table : (file_version : ℕ) → Table
 first_table version =
     record builtin_table { version = version; types = first_types version }

@@ -16,25 +16,25 @@ use Rattle.giop_sig.specs.Table as nodes
 
 -- The number of a type in versions 1 and 2, from its number in version 3: a named number is a ULONG
 -- there, and the types after the four named numbers have numbers that are less by 4.
-abbrev pub older_number : (version_3_number : ℕ) → ℕ
+abbrev pub older_number : (type_number_in_version_3 : ℕ) → ℕ
 older_number number =
     cond (nat_lt number CONTEXT_ID) number (cond (nat_lt number CODE_SETS) ULONG (number - 4))
 
 -- The number of a type in a version, from its number in version 3. Each version other than 3 is
 -- like version 1.
-abbrev pub number_in_version : (version version_3_number : ℕ) → ℕ
+abbrev pub number_in_version : (file_version type_number_in_version_3 : ℕ) → ℕ
 number_in_version version number = cond (version == 3) number (older_number number)
 
-abbrev pub renumbered_part : (new_number : ℕ → ℕ) (part : Part) → Part
+abbrev pub renumbered_part : (new_type_number : ℕ → ℕ) (part : Part) → Part
 renumbered_part new_number p = record { name = p.name; type = new_number p.type }
 
-abbrev pub renumbered_case : (new_number : ℕ → ℕ) (case : Case) → Case
+abbrev pub renumbered_case : (new_type_number : ℕ → ℕ) (case : Case) → Case
 renumbered_case new_number c =
     record { labels = c.labels; part = renumbered_part new_number c.part }
 
 -- A node with other numbers for the types of its parts. An any and a TypeCode are in version 3
 -- alone, and stay the same.
-abbrev pub renumbered : (new_number : ℕ → ℕ) (node : Node) → Node
+abbrev pub renumbered : (new_type_number : ℕ → ℕ) (node : Node) → Node
 renumbered new_number (nodes.members parts) = nodes.members (map (renumbered_part new_number) parts)
 renumbered new_number (nodes.union switch cases otherwise) =
     nodes.union (new_number switch) (map (renumbered_case new_number) cases) otherwise
@@ -48,11 +48,11 @@ renumbered new_number node = node
 
 -- ---- parts
 
-abbrev pub member : (name : List ℕ) (type : ℕ) → Part
+abbrev pub member : (name : List ℕ) (type_number : ℕ) → Part
 member name type = record { name = name; type = type }
 
 -- a case of the target, with one label
-abbrev pub labelled : (label : ℕ) (name : List ℕ) (type : ℕ) → Case
+abbrev pub labelled : (single_signed_label : ℕ) (part_name : List ℕ) (part_type_number : ℕ) → Case
 labelled label name type = record { labels = Signed (pos label) ∷ []; part = member name type }
 
 -- ---- contexts, profiles and references

@@ -26,7 +26,7 @@ use Rattle.giop_sig.specs.Repeats.{in_steps}
 abbrev pub ReturnRead : Type 0
 ReturnRead = Scope × List Part × List ℕ
 
-abbrev pub return_after : (scope : Scope) (text : List ℕ) (rest : Option (List ℕ)) →
+abbrev pub return_after : (scope : Scope) (text : List ℕ) (rest_after_void : Option (List ℕ)) →
     Result ReturnRead TokenError
 return_after s text (Some rest) = Ok (s, [], rest)
 return_after s text None = do
@@ -56,7 +56,7 @@ direction_of word =
     (if bytes_eq word (codes "out") then Some directions.Out else
     (if bytes_eq word (codes "inout") then Some directions.Inout else None))
 
-abbrev pub as_direction : (text rest : List ℕ) (direction : Option Direction) →
+abbrev pub as_direction : (text_from_word rest_after_word : List ℕ) (direction : Option Direction) →
     Result (Direction × List ℕ) TokenError
 as_direction text rest None = Err (misplaced text)
 as_direction text rest (Some d) = Ok (d, rest)
@@ -66,13 +66,13 @@ direction_at text = do
   w ← word_at text
   as_direction text w.1 (direction_of w.0)
 
-abbrev pub with_request_part : (direction : Direction) (parameter : Part) (parts : List Part) →
-    List Part
+abbrev pub with_request_part : (direction : Direction) (parameter : Part)
+    (request_parts : List Part) → List Part
 with_request_part directions.In p parts = parts ++ p ∷ []
 with_request_part directions.Out p parts = parts
 with_request_part directions.Inout p parts = parts ++ p ∷ []
 
-abbrev pub with_reply_part : (direction : Direction) (parameter : Part) (parts : List Part) →
+abbrev pub with_reply_part : (direction : Direction) (parameter : Part) (reply_parts : List Part) →
     List Part
 with_reply_part directions.In p parts = parts
 with_reply_part directions.Out p parts = parts ++ p ∷ []
@@ -85,7 +85,7 @@ pub record ParameterLists : Type 0 where
   pub reply : List Part
 
 -- the lists with one more parameter
-abbrev pub with_param : (lists : ParameterLists) (direction : Direction) (member : Part) →
+abbrev pub with_param : (lists : ParameterLists) (direction : Direction) (parameter : Part) →
     ParameterLists
 with_param w d p =
     record {
@@ -98,44 +98,44 @@ with_param w d p =
 abbrev pub Params : Type 0
 Params = Scope × ParameterLists × List ℕ
 
-abbrev pub param_end : (lists : ParameterLists) (direction : Direction) (item : ItemRead)
-    (rest : Option (List ℕ)) → Result (Bool × Params) TokenError
+abbrev pub param_end : (lists_before : ParameterLists) (direction : Direction) (item : ItemRead)
+    (rest_after_comma : Option (List ℕ)) → Result (Bool × Params) TokenError
 param_end w d i (Some r) = Ok (false, (i.0, with_param w d i.1, r))
 param_end w d i None = do
   r ← mark_at marks.CloseParenthesis i.2
   Ok (true, (i.0, with_param w d i.1, r))
 
 -- a parameter, and the comma or the closing mark after it
-unfoldable pub param_step : (params : Params) → Result (Bool × Params) TokenError
+unfoldable pub param_step : (params_so_far : Params) → Result (Bool × Params) TokenError
 param_step x = do
   d ← direction_at x.2
   i ← item_at 255 (x.1).seen x.0 d.1
   c ← mark_if marks.Comma i.2
   param_end x.1 d.0 i c
 
-abbrev pub too_many_params : (params : Params) → TokenError
+abbrev pub too_many_params : (params_so_far : Params) → TokenError
 too_many_params x = refused kinds.Limit x.2
 
 abbrev pub ParamsRead : Type 0
 ParamsRead = Scope × List Part × List Part × List ℕ
 
-abbrev pub params_read : (params : Params) → Result ParamsRead TokenError
+abbrev pub params_read : (params_so_far : Params) → Result ParamsRead TokenError
 params_read x = Ok (x.0, (x.1).request, (x.1).reply, x.2)
 
-abbrev pub params_run : (count : ℕ) (params : Params) → Result ParamsRead TokenError
+abbrev pub params_run : (most_steps : ℕ) (params_so_far : Params) → Result ParamsRead TokenError
 params_run count x = in_steps param_step too_many_params count x >>= params_read
 
-abbrev pub only_returned : (returned : List Part) → ParameterLists
+abbrev pub only_returned : (returned_parts : List Part) → ParameterLists
 only_returned returned = record { seen = []; request = []; reply = returned }
 
-abbrev pub params_after : (returned : List Part) (scope : Scope) (text : List ℕ)
-    (rest : Option (List ℕ)) → Result ParamsRead TokenError
+abbrev pub params_after : (returned_parts : List Part) (scope : Scope) (text : List ℕ)
+    (rest_after_parenthesis : Option (List ℕ)) → Result ParamsRead TokenError
 params_after returned s text (Some rest) = Ok (s, [], returned, rest)
 params_after returned s text None = params_run 256 (s, only_returned returned, text)
 
 -- parameters up to the closing mark
-unfoldable pub params_at : (returned : List Part) (scope : Scope) (text : List ℕ) →
-    Result ParamsRead TokenError
+unfoldable pub params_at : (returned_parts : List Part) (scope : Scope)
+    (text_after_parenthesis : List ℕ) → Result ParamsRead TokenError
 params_at returned s text = do
   c ← mark_if marks.CloseParenthesis text
   params_after returned s text c
@@ -163,7 +163,8 @@ InterfacesRead = Scope × List ℕ
 abbrev pub with_table_by : (change : Table → Table) (scope : Scope) → Scope
 with_table_by change s = record s { table = change s.table }
 
-abbrev pub key_in_interface : (operation : OperationStructs) (table : Table) (id : List ℕ) → List ℕ
+abbrev pub key_in_interface : (operation : OperationStructs) (table : Table)
+    (interface_repository_id : List ℕ) → List ℕ
 key_in_interface c t id = operation_key (number_of t.interfaces id + 1) c.name
 
 -- an interface in which the operation's name is new
@@ -177,50 +178,49 @@ operation_interface_at c t text = do
       else Ok (id.0, id.1)
 
 -- whether no comma comes, and the rest
-abbrev pub after_comma : (text : List ℕ) (after : Option (List ℕ)) → Bool × List ℕ
+abbrev pub after_comma : (rest_without_comma : List ℕ) (rest_after_comma : Option (List ℕ)) →
+    Bool × List ℕ
 after_comma text None = (true, text)
 after_comma text (Some after) = (false, after)
 
-abbrev pub interface_end : (operation : OperationStructs) (id : List ℕ)
-    (interfaces : InterfacesRead)
-    (over_and_rest : Bool × List ℕ) → Bool × InterfacesRead
+abbrev pub interface_end : (operation : OperationStructs) (interface_repository_id : List ℕ)
+    (interfaces_so_far : InterfacesRead) (over_and_rest : Bool × List ℕ) → Bool × InterfacesRead
 interface_end c id v over_and_rest = (
   over_and_rest.0,
   (with_table_by (with_operation_in_interface c.name c.request c.reply id) v.0, over_and_rest.1),
 )
 
 -- an interface of an operation, and the comma after it
-unfoldable pub interface_step : (operation : OperationStructs) (interfaces : InterfacesRead) →
-    Result (Bool × InterfacesRead) TokenError
+unfoldable pub interface_step : (operation : OperationStructs)
+    (interfaces_so_far : InterfacesRead) → Result (Bool × InterfacesRead) TokenError
 interface_step c v = do
   id ← operation_interface_at c (v.0).table v.1
   comma ← mark_if marks.Comma id.1
   Ok (interface_end c id.0 v (after_comma id.1 comma))
 
-abbrev pub too_many_interfaces : (interfaces : InterfacesRead) → TokenError
+abbrev pub too_many_interfaces : (interfaces_so_far : InterfacesRead) → TokenError
 too_many_interfaces v = misplaced v.1
 
 -- an operation without interfaces, whose name is at the front of `at`
-abbrev pub without_interfaces_at : (name_text : List ℕ) (operation : OperationStructs)
-    (interfaces : InterfacesRead)
-    → Result InterfacesRead TokenError
+abbrev pub without_interfaces_at : (text_from_operation_name : List ℕ)
+    (operation : OperationStructs) (scope_and_rest : InterfacesRead) →
+    Result InterfacesRead TokenError
 without_interfaces_at at c v =
     if is_some (operation_number_of_key (v.0).table (operation_key 0 c.name))
     then Err (refused kinds.Duplicate at)
     else Ok (with_table_by (with_keyed_operation 0 c.name c.request c.reply) v.0, v.1)
 
-abbrev pub interfaces_after_of : (name_text : List ℕ) (operation : OperationStructs)
-    (interfaces : InterfacesRead)
-    (rest : Option (List ℕ)) →
+abbrev pub interfaces_after_of : (text_from_operation_name : List ℕ) (operation : OperationStructs)
+    (scope_and_rest : InterfacesRead) (rest_after_of : Option (List ℕ)) →
     Result InterfacesRead TokenError
 interfaces_after_of at c v None = without_interfaces_at at c v
 interfaces_after_of at c v (Some rest) = in_steps (interface_step c) too_many_interfaces
     (length rest) (v.0, rest)
 
 -- the interfaces of an operation, if it has some; its name is at the front of `at`
-unfoldable pub optional_interfaces_at : (name_text : List ℕ) (operation : OperationStructs)
-    (interfaces : InterfacesRead)
-    → Result InterfacesRead TokenError
+unfoldable pub optional_interfaces_at : (text_from_operation_name : List ℕ)
+    (operation : OperationStructs) (scope_and_rest : InterfacesRead) →
+    Result InterfacesRead TokenError
 optional_interfaces_at at c v =
     if is_version_3 (v.0).names then (keyword_if (codes "of") v.1 >>= interfaces_after_of at c v)
     else without_interfaces_at at c v
@@ -238,7 +238,8 @@ abbrev pub with_operation_counted_in : (scope : Scope) → Scope
 with_operation_counted_in s = record s { table = with_operation_counted s.table }
 
 -- an operation, after its first word
-unfoldable pub operation_at : (scope : Scope) (text : List ℕ) → Result DeclarationRead TokenError
+unfoldable pub operation_at : (scope : Scope) (text_after_keyword : List ℕ) →
+    Result DeclarationRead TokenError
 operation_at s text = do
   t ← return_at s text
   n ← new_operation_at t.0 t.2
@@ -257,7 +258,8 @@ new_key_at s text = do
       then Err (refused kinds.Limit text) else Ok (k.0, k.1)))
 
 -- a KEY and its interface, after its first word
-unfoldable pub key_at : (scope : Scope) (text : List ℕ) → Result DeclarationRead TokenError
+unfoldable pub key_at : (scope : Scope) (text_after_keyword : List ℕ) →
+    Result DeclarationRead TokenError
 key_at s text = do
   k ← new_key_at s text
   o ← keyword_at (codes "of") k.1

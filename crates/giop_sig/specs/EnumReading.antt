@@ -17,14 +17,14 @@ abbrev pub NamesAndRest : Type 0
 NamesAndRest = List (List ℕ) × List ℕ
 
 -- one more enumerator
-unfoldable pub enumerator_at : (version_3 : Bool) (seen : List (List ℕ)) (text : List ℕ) →
+unfoldable pub enumerator_at : (version_3 : Bool) (names_before : List (List ℕ)) (text : List ℕ) →
     Result NamesAndRest TokenError
 enumerator_at third seen text = do
   w ← new_name_at third 1024 seen text
   Ok (seen ++ w.0 ∷ [], w.1)
 
 -- a comma, after which another enumerator comes, or the closing mark
-abbrev pub names_end : (names : NamesAndRest) (rest : Option (List ℕ)) →
+abbrev pub names_end : (names_so_far : NamesAndRest) (rest_after_comma : Option (List ℕ)) →
     Result (Bool × NamesAndRest) TokenError
 names_end names (Some rest) = Ok (false, (names.0, rest))
 names_end names None = do
@@ -32,8 +32,8 @@ names_end names None = do
   Ok (true, (names.0, rest))
 
 -- an enumerator, and the mark after it
-unfoldable pub names_step : (version_3 : Bool) (seen : NamesAndRest) → Result
-    (Bool × NamesAndRest) TokenError
+unfoldable pub names_step : (version_3 : Bool) (names_so_far : NamesAndRest) →
+    Result (Bool × NamesAndRest) TokenError
 names_step third seen = do
   names ← enumerator_at third seen.0 seen.1
   comma ← mark_if marks.Comma names.1
@@ -43,13 +43,15 @@ abbrev pub too_many_names : (names : NamesAndRest) → TokenError
 too_many_names names = refused kinds.Limit names.1
 
 -- the enumerators of an enum, after its opening mark
-unfoldable pub names_at : (version_3 : Bool) (text : List ℕ) → Result NamesAndRest TokenError
+unfoldable pub names_at : (version_3 : Bool) (text_after_brace : List ℕ) →
+    Result NamesAndRest TokenError
 names_at third text = do
   some ← non_empty_list_at text
   in_steps (names_step third) too_many_names 1025 ([], some)
 
 -- an enum, after its first word
-unfoldable pub enumeration_at : (scope : Scope) (text : List ℕ) → Result DeclarationRead TokenError
+unfoldable pub enumeration_at : (scope : Scope) (text_after_keyword : List ℕ) →
+    Result DeclarationRead TokenError
 enumeration_at s text = do
   n ← declared_name_at s None s.table.declared text
   i ← identity_at s n.1

@@ -20,8 +20,8 @@ use Rattle.giop_sig.specs.EnumReading.{enumeration_at}
 use Rattle.giop_sig.specs.UnionReading.{union_at}
 use Rattle.giop_sig.specs.Repeats.{in_steps}
 
-abbrev pub declaration_after : (scope : Scope) (text word rest : List ℕ)
-    → Result DeclarationRead TokenError
+abbrev pub declaration_after : (scope : Scope) (text_from_word word rest_after_word : List ℕ) →
+    Result DeclarationRead TokenError
 declaration_after s text word rest =
     if bytes_eq word (codes "enum") then enumeration_at s rest else
     (if bytes_eq word (codes "struct") then structure_at s rest else
@@ -47,13 +47,13 @@ announcement_count s = length s.names.announced
 
 -- What is left from each announced name on, after the declaration that a text begins with: it
 -- announced its name if more names are announced after it than before it.
-unfoldable pub with_announced_left : (before after : ℕ) (lefts text : List ℕ) → Result
-    (List ℕ) TokenError
+unfoldable pub with_announced_left : (announced_before announced_after : ℕ)
+    (octets_left_from_names text_from_declaration : List ℕ) → Result (List ℕ) TokenError
 with_announced_left before after lefts text = do
   w ← word_at text
   Ok (if nat_lt before after then lefts ++ octets_left_at_token w.1 ∷ [] else lefts)
 
-abbrev pub declaration_or_end : (declarations : DeclarationsRead) (over : Bool) →
+abbrev pub declaration_or_end : (declarations_so_far : DeclarationsRead) (text_is_over : Bool) →
     Result (Bool × DeclarationsRead) TokenError
 declaration_or_end d true = Ok (true, d)
 declaration_or_end d false = do
@@ -62,7 +62,7 @@ declaration_or_end d false = do
   Ok (false, (next.0, lefts, next.1))
 
 -- the end of the text, or one more declaration
-unfoldable pub declarations_step : (declarations : DeclarationsRead) →
+unfoldable pub declarations_step : (declarations_so_far : DeclarationsRead) →
     Result (Bool × DeclarationsRead) TokenError
 declarations_step d = do
   over ← end_at d.2
@@ -72,30 +72,33 @@ abbrev pub misplaced_after : (declarations : DeclarationsRead) → TokenError
 misplaced_after d = misplaced d.2
 
 -- a refusal for a name that isn't declared, where it is announced
-abbrev pub undeclared_refusal : (lefts : List ℕ) (index : ℕ) → TokenError
+abbrev pub undeclared_refusal : (octets_left_from_names : List ℕ) (announcement_index : ℕ) →
+    TokenError
 undeclared_refusal lefts index = record {
   kind = kinds.UnknownType;
   left = slice_index_or lefts
       index 0;
 }
 
-abbrev pub resolved_unless_undeclared : (scope : Scope) (lefts : List ℕ) (index : Option ℕ) →
-    Result Scope TokenError
+abbrev pub resolved_unless_undeclared : (scope : Scope) (octets_left_from_names : List ℕ)
+    (first_undeclared_index : Option ℕ) → Result Scope TokenError
 resolved_unless_undeclared s lefts None = Ok (settled s)
 resolved_unless_undeclared s lefts (Some index) = Err (undeclared_refusal lefts index)
 
 -- the end of the text: each name that is announced is declared
-unfoldable pub resolved_if_declared : (scope : Scope) (lefts : List ℕ) → Result Scope TokenError
+unfoldable pub resolved_if_declared : (scope : Scope) (octets_left_from_names : List ℕ) →
+    Result Scope TokenError
 resolved_if_declared s lefts = resolved_unless_undeclared s lefts (first_undeclared s.names)
 
 -- the version of the format, which is at most `latest`
-unfoldable pub version_at : (latest : ℕ) (text : List ℕ) → Result (ℕ × List ℕ) TokenError
+unfoldable pub version_at : (latest_version : ℕ) (text : List ℕ) → Result (ℕ × List ℕ) TokenError
 version_at latest text = do
   n ← number_at text
   if is_version latest n.0 then Ok (n.0, n.1) else Err (misplaced text)
 
 -- what comes before the declarations
-unfoldable pub version_line_at : (latest : ℕ) (text : List ℕ) → Result (ℕ × List ℕ) TokenError
+unfoldable pub version_line_at : (latest_version : ℕ) (text : List ℕ) →
+    Result (ℕ × List ℕ) TokenError
 version_line_at latest text = do
   k ← keyword_at (codes "signatures") text
   v ← version_at latest k
@@ -103,7 +106,7 @@ version_line_at latest text = do
   Ok (v.0, r)
 
 -- what a file declares whose version is at most `latest`
-unfoldable pub file_at : (latest : ℕ) (text : List ℕ) → Result Scope TokenError
+unfoldable pub file_at : (latest_version : ℕ) (text : List ℕ) → Result Scope TokenError
 file_at latest text = do
   h ← version_line_at latest text
   d ← in_steps declarations_step misplaced_after (length text) (first_scope h.0, [], h.1)
@@ -115,7 +118,7 @@ text_too_long = record { line = 1; kind = kinds.Limit }
 
 -- the refusal at the first wrong token of a file whose version is at most `latest`, and its line;
 -- memory may be refused at any time
-abbrev pub IsFirstRefusalUpTo : (latest : ℕ) (text : List ℕ) (fault : SigFault) → Type 0
+abbrev pub IsFirstRefusalUpTo : (latest_version : ℕ) (text : List ℕ) (fault : SigFault) → Type 0
 IsFirstRefusalUpTo latest text f =
     (f ≡ no_memory) ⊎ ((r : TokenError) × (file_at latest text ≡ Err r) × (f ≡ fault_of text r))
 

@@ -5,11 +5,11 @@ use Rattle.giop_sig.specs.declared.types.Selected.TheVariants.{Case}
 use Rattle.giop_sig.specs.Types.{Ty, case_count, Struct, Union, Sequence, Array, Encapsulation, Recursive, Led, InferredType, Then, sequel}
 
 -- each case that is selected is one of the first `count`
-abbrev pub SelectsBelow : (count : ℕ) (select : ℕ → Selected) → Type 0
+abbrev pub SelectsBelow : (union_case_count : ℕ) (selected_by_discriminator : ℕ → Selected) → Type 0
 SelectsBelow count select = (n i : ℕ) → select n ≡ Case i → i < count
 
 -- no deeper than this depth, and each part takes an octet
-unfoldable pub IsFit : (depth : ℕ) (type : Ty) → Type 0
+unfoldable pub IsFit : (most_depth : ℕ) (type : Ty) → Type 0
 IsFit (suc depth) (Struct count names parts) =
     (0 < count) × ((i : ℕ) → i < count → IsFit depth (parts i))
 IsFit (suc depth) (Array count T) = (0 < count) × IsFit depth T

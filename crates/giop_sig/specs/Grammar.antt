@@ -47,12 +47,13 @@ base_word prims.Float = codes "float"
 base_word prims.Double = codes "double"
 
 -- a size between two marks, if there is one
-abbrev pub spell_between : (before close : Mark) (bound : Option ℕ) (more : List Token) → List Token
+abbrev pub spell_between : (opening closing : Mark) (number_between : Option ℕ)
+    (more : List Token) → List Token
 spell_between before close None more = more
 spell_between before close (Some bound) more = mark before ∷ number bound ∷ mark close ∷ more
 
 -- the bound of a string: < N >
-abbrev pub spell_bound : (bound : Option ℕ) (more : List Token) → List Token
+abbrev pub spell_bound : (string_bound : Option ℕ) (more : List Token) → List Token
 spell_bound bound more = spell_between marks.OpenAngle marks.CloseAngle bound more
 
 -- the bound of a sequence, after the type of its elements: , N
@@ -85,7 +86,7 @@ pub record Item : Type 0 where
   pub lengths : List ℕ
 
 -- the lengths of arrays, each in brackets: [ N ]
-abbrev pub spell_lengths : (numbers : List ℕ) (more : List Token) → List Token
+abbrev pub spell_lengths : (array_lengths : List ℕ) (more : List Token) → List Token
 spell_lengths [] more = more
 spell_lengths (n ∷ ns) more =
     spell_between marks.OpenBracket marks.CloseBracket (Some n) (spell_lengths ns more)
@@ -94,18 +95,19 @@ abbrev pub spell_item : (item : Item) (more : List Token) → List Token
 spell_item i more = spell_type i.type (word i.name ∷ spell_lengths i.lengths more)
 
 -- members with a semicolon each, and the closing mark
-abbrev pub spell_items : (items : List Item) (more : List Token) → List Token
+abbrev pub spell_items : (items : List Item) (tokens_after_brace : List Token) → List Token
 spell_items [] more = mark marks.CloseBrace ∷ more
 spell_items (i ∷ is) more = spell_item i (mark marks.Semicolon ∷ spell_items is more)
 
 -- ---- the names of an enum
 
-abbrev pub spell_more_names : (names : List (List ℕ)) (more : List Token) → List Token
+abbrev pub spell_more_names : (names_after_first : List (List ℕ))
+    (tokens_after_brace : List Token) → List Token
 spell_more_names [] more = mark marks.CloseBrace ∷ more
 spell_more_names (n ∷ ns) more = mark marks.Comma ∷ word n ∷ spell_more_names ns more
 
 -- names with commas between them, and the closing mark
-abbrev pub spell_names : (names : List (List ℕ)) (more : List Token) → List Token
+abbrev pub spell_names : (names : List (List ℕ)) (tokens_after_brace : List Token) → List Token
 spell_names [] more = mark marks.CloseBrace ∷ more
 spell_names (n ∷ ns) more = word n ∷ spell_more_names ns more
 
@@ -132,7 +134,7 @@ pub data Label : Type 0 where
   Default : Label
   Of : Value → Label
 
-abbrev pub spell_label : (label : Label) (more : List Token) → List Token
+abbrev pub spell_label : (label : Label) (tokens_after_colon : List Token) → List Token
 spell_label Default more = word (codes "default") ∷ mark marks.Colon ∷ more
 spell_label (Of v) more = word (codes "case") ∷ spell_value v (mark marks.Colon ∷ more)
 
@@ -146,7 +148,7 @@ pub record UnionCase : Type 0 where
   pub others : List Label
   pub item : Item
 
-abbrev pub spell_cases : (cases : List UnionCase) (more : List Token) → List Token
+abbrev pub spell_cases : (cases : List UnionCase) (tokens_after_brace : List Token) → List Token
 spell_cases [] more = mark marks.CloseBrace ∷ more
 spell_cases (c ∷ cs) more =
     spell_label c.label (spell_labels c.others
@@ -166,29 +168,31 @@ pub record Param : Type 0 where
 abbrev pub spell_param : (parameter : Param) (more : List Token) → List Token
 spell_param p more = word (direction_word p.direction) ∷ spell_item p.item more
 
-abbrev pub spell_more_params : (params : List Param) (more : List Token) → List Token
+abbrev pub spell_more_params : (params_after_first : List Param)
+    (tokens_after_parenthesis : List Token) → List Token
 spell_more_params [] more = mark marks.CloseParenthesis ∷ more
 spell_more_params (p ∷ ps) more = mark marks.Comma ∷ spell_param p (spell_more_params ps more)
 
 -- parameters with commas between them, and the closing mark
-abbrev pub spell_params : (params : List Param) (more : List Token) → List Token
+abbrev pub spell_params : (params : List Param) (tokens_after_parenthesis : List Token) → List Token
 spell_params [] more = mark marks.CloseParenthesis ∷ more
 spell_params (p ∷ ps) more = spell_param p (spell_more_params ps more)
 
 -- what an operation returns, perhaps nothing
-abbrev pub spell_return : (type : Option TypeExpr) (more : List Token) → List Token
+abbrev pub spell_return : (returned_type : Option TypeExpr) (more : List Token) → List Token
 spell_return None more = word (codes "void") ∷ more
 spell_return (Some e) more = spell_type e more
 
 -- ---- the interfaces of an operation
 
-abbrev pub spell_more_interfaces : (ids : List (List ℕ)) (more : List Token) → List Token
+abbrev pub spell_more_interfaces : (interface_ids_after_first : List (List ℕ)) (more : List Token) →
+    List Token
 spell_more_interfaces [] more = more
 spell_more_interfaces (id ∷ ids) more =
     mark marks.Comma ∷ repository id ∷ spell_more_interfaces ids more
 
 -- nothing, or a word and the repository ids of interfaces with commas between them
-abbrev pub spell_interfaces : (ids : List (List ℕ)) (more : List Token) → List Token
+abbrev pub spell_interfaces : (interface_ids : List (List ℕ)) (more : List Token) → List Token
 spell_interfaces [] more = more
 spell_interfaces (id ∷ ids) more =
     word (codes "of") ∷ repository id ∷ spell_more_interfaces ids more
@@ -196,12 +200,12 @@ spell_interfaces (id ∷ ids) more =
 -- ---- declarations
 
 -- the repository id of a type, if it has one
-abbrev pub spell_identity : (id : Option (List ℕ)) (more : List Token) → List Token
+abbrev pub spell_identity : (repository_id : Option (List ℕ)) (more : List Token) → List Token
 spell_identity None more = more
 spell_identity (Some id) more = repository id ∷ more
 
 -- the first word of a struct or union
-abbrev pub type_word : (first : TypeWord) → List ℕ
+abbrev pub type_word : (struct_or_union : TypeWord) → List ℕ
 type_word type_words.Struct = codes "struct"
 type_word type_words.Union = codes "union"
 
@@ -255,7 +259,7 @@ pub record SignatureFile : Type 0 where
   pub declarations : List Declaration
 
 -- whether a version of the format is at most `latest`
-abbrev pub is_version : (latest version : ℕ) → Bool
+abbrev pub is_version : (latest_version version : ℕ) → Bool
 is_version latest version = nat_le 1 version && nat_le version latest
 
 -- the whole file, its version first

@@ -34,7 +34,8 @@ abbrev pub flattened_cell : (cell : Option (Option ℕ)) → Option ℕ
 flattened_cell None = None
 flattened_cell (Some cell) = cell
 
-abbrev pub cell_of_minor : (row : Option (List (Option ℕ))) (minor : ℕ) → Option ℕ
+abbrev pub cell_of_minor : (row_of_message_type : Option (List (Option ℕ))) (giop_minor : ℕ) →
+    Option ℕ
 cell_of_minor None minor = None
 cell_of_minor (Some row) minor = flattened_cell (slice_get row minor)
 
@@ -49,17 +50,17 @@ abbrev pub header_type : (file_version giop_minor message_type : ℕ) → Option
 header_type version minor kind =
     option_map (tree (first_table version)) (header_type_number version minor kind)
 
-abbrev pub fixed_type_in_version_3 : (fixed : Fixed) → ℕ
+abbrev pub fixed_type_in_version_3 : (undeclared_body : Fixed) → ℕ
 fixed_type_in_version_3 fixeds.ExceptionId = STRING
 fixed_type_in_version_3 fixeds.SystemException = SYSTEM_EXCEPTION
 fixed_type_in_version_3 fixeds.Forward = IOR
 fixed_type_in_version_3 fixeds.Addressing = SHORT
 
 -- the number of the type of a body that isn't declared, in a version of signature files
-abbrev pub fixed_type_number : (version : ℕ) (fixed : Fixed) → ℕ
+abbrev pub fixed_type_number : (file_version : ℕ) (undeclared_body : Fixed) → ℕ
 fixed_type_number version fixed = number_in_version version (fixed_type_in_version_3 fixed)
 
-abbrev pub fixed_type : (version : ℕ) (fixed : Fixed) → Ty
+abbrev pub fixed_type : (file_version : ℕ) (undeclared_body : Fixed) → Ty
 fixed_type version fixed = tree (first_table version) (fixed_type_number version fixed)
 
 -- a header that begins with the request id
@@ -76,20 +77,20 @@ RequestIdStandsFirst minor kind = (minor ≡ 2) ⊎ (kind ≡ 2)
 -- ---- a catalogue's table
 
 -- an operation whose structs are in the table
-pub record IsOperation (types : List Node) (o : Operation) : Type 0 where
-  pub short : length o.key ≤ 130
-  pub request : o.request < length types
-  pub reply : o.reply < length types
+pub record IsOperation (types : List Node) (operation : Operation) : Type 0 where
+  pub short : length operation.key ≤ 130
+  pub request : operation.request < length types
+  pub reply : operation.reply < length types
 
 -- an exception whose struct is in the table
-pub record IsException (types : List Node) (e : Exception) : Type 0 where
-  pub short : length e.repository ≤ 128
-  pub members : e.members < length types
+pub record IsException (types : List Node) (exception : Exception) : Type 0 where
+  pub short : length exception.repository ≤ 128
+  pub members : exception.members < length types
 
 -- a type of the table that has a repository id
-pub record IsIdentity (types : List Node) (e : Identity) : Type 0 where
-  pub short : length e.repository ≤ 128
-  pub type : e.type < length types
+pub record IsIdentity (types : List Node) (identity : Identity) : Type 0 where
+  pub short : length identity.repository ≤ 128
+  pub type : identity.type < length types
 
 -- a node that a file of version 1 or 2 may have
 abbrev pub IsBeforeVersion3 : (node : Node) → Type 0
@@ -103,7 +104,7 @@ IsBeforeVersion3 (nodes.typecode wide kind cases) = ⊥
 IsBeforeVersion3 node = Unit {0}
 
 -- a node that a declaration in a file of a version may add
-abbrev pub IsAddable : (version : ℕ) (node : Node) → Type 0
+abbrev pub IsAddable : (file_version : ℕ) (node : Node) → Type 0
 IsAddable version (nodes.announced index) = version ≡ 3
 IsAddable version (nodes.recursive bound element) = version ≡ 3
 IsAddable version node = IsBeforeVersion3 node
@@ -112,8 +113,8 @@ abbrev pub AreBeforeVersion3 : (types : List Node) → Type 0
 AreBeforeVersion3 types = (i : ℕ) → i < length types → IsBeforeVersion3 (node_in types i)
 
 -- no two elements have the same name
-abbrev pub AreDistinct : {X : Type 0} (name_in : X → List ℕ) (otherwise : X) (list : List X) →
-    Type 0
+abbrev pub AreDistinct : {X : Type 0} (name_in : X → List ℕ) (element_past_end : X)
+    (list : List X) → Type 0
 AreDistinct name_in otherwise list =
     (i j : ℕ) → i < length list → j < length list
     → name_in (slice_index_or list i otherwise) ≡ name_in (slice_index_or list j otherwise)
@@ -121,28 +122,29 @@ AreDistinct name_in otherwise list =
 
 -- The types and the fronts of repository ids from which the type of an any's value is known. Only
 -- files of version 3 have wide text, anys, TypeCodes and their parts, and types that are announced.
-pub record KnowsAnys (version : ℕ) (types : List Node) (fronts : List (List ℕ)) : Type 0 where
-  pub plain : (version ≡ 3 → ⊥) → AreBeforeVersion3 types
+pub record KnowsAnys (file_version : ℕ) (types : List Node) (id_fronts : List (List ℕ)) :
+    Type 0 where
+  pub plain : (file_version ≡ 3 → ⊥) → AreBeforeVersion3 types
   pub wide : AllHaveParameterTypes types
-  pub short : All (λ front. length front ≤ 129) fronts
-  pub few : length fronts ≤ 65536
+  pub short : All (λ front. length front ≤ 129) id_fronts
+  pub few : length id_fronts ≤ 65536
 
 -- a table that begins with the types of its version, is within the limits, and has such types
-pub record TableOf (Types : List Node → Type 0) (t : Table) : Type 0 where
-  pub types : Types t.types
-  pub begins : (more : List Node) × (t.types ≡ first_types t.version ++ more)
-  pub operations : All (IsOperation t.types) t.operations
-  pub exceptions : All (IsException t.types) t.exceptions
-  pub operations_distinct : AreDistinct (λ o. o.key) no_operation t.operations
-  pub exceptions_distinct : AreDistinct (λ e. e.repository) no_exception t.exceptions
-  pub operations_few : length t.operations < 2 ^ 32
-  pub exceptions_few : length t.exceptions ≤ 4096
-  pub declared_few : t.declared ≤ 4096
-  pub called_few : t.called ≤ 4096
-  pub identities : All (IsIdentity t.types) t.identities
-  pub identities_distinct : AreDistinct (λ e. e.repository) no_identity t.identities
-  pub interfaces_few : length t.interfaces.names ≤ 1024
-  pub anys : KnowsAnys t.version t.types t.fronts
+pub record TableOf (HoldsOfTypes : List Node → Type 0) (table : Table) : Type 0 where
+  pub types : HoldsOfTypes table.types
+  pub begins : (more : List Node) × (table.types ≡ first_types table.version ++ more)
+  pub operations : All (IsOperation table.types) table.operations
+  pub exceptions : All (IsException table.types) table.exceptions
+  pub operations_distinct : AreDistinct (λ o. o.key) no_operation table.operations
+  pub exceptions_distinct : AreDistinct (λ e. e.repository) no_exception table.exceptions
+  pub operations_few : length table.operations < 2 ^ 32
+  pub exceptions_few : length table.exceptions ≤ 4096
+  pub declared_few : table.declared ≤ 4096
+  pub called_few : table.called ≤ 4096
+  pub identities : All (IsIdentity table.types) table.identities
+  pub identities_distinct : AreDistinct (λ e. e.repository) no_identity table.identities
+  pub interfaces_few : length table.interfaces.names ≤ 1024
+  pub anys : KnowsAnys table.version table.types table.fronts
 
 -- the table of a catalogue
 abbrev pub IsTable : (table : Table) → Type 0

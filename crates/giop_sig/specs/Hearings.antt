@@ -22,7 +22,7 @@ inferred_of_signal signals.Empty = types.Empty
 inferred_of_signal signals.Unknown = types.Unknown
 
 -- the signal that stands for what was told
-abbrev pub signal_of : (inferred : InferredType) → Signal
+abbrev pub signal_of : (told : InferredType) → Signal
 signal_of types.Untold = signals.Untold
 signal_of (types.Awaits n) = signals.Awaits n
 signal_of (types.Offers i) = signals.Offers i
@@ -37,7 +37,7 @@ sign_view (signs.Counted n) = types.Counted n
 sign_view (signs.Spelt held rest more) = types.Spelt (held.now ++ rest.now) more
 
 -- what a following of the code stands for; the part that tells has index 0
-abbrev pub sequel_view : (following : Following) → Sequel
+abbrev pub sequel_view : (following_counted_from_1 : Following) → Sequel
 sequel_view (followings.Then index) = types.Then (index - 1)
 sequel_view followings.Ends = types.Ends
 sequel_view followings.Stops = types.Stops
@@ -59,11 +59,12 @@ inference_in (Led h F parts) = h
 inference_in T = infers_nothing
 
 -- the signal after a sign, in a type with this node: only an any tells something
-abbrev pub signal_by_node : (table : Table) (node : Node) (signal : Signal) (sign : types.Sign) →
-    Signal
+abbrev pub signal_by_node : (table : Table) (node : Node) (signal_before : Signal)
+    (sign : types.Sign) → Signal
 signal_by_node C (nodes.any code) told sign = signal_of
     (inferred_after C (inferred_of_signal told) sign)
 signal_by_node C node told sign = told
 
-abbrev pub signal_after : (table : Table) (number : ℕ) (told : Signal) (sign : Sign) → Signal
+abbrev pub signal_after : (table : Table) (type_number : ℕ) (signal_before : Signal) (sign : Sign) →
+    Signal
 signal_after C number told sign = signal_by_node C (node_at C number) told (sign_view sign)

@@ -22,8 +22,8 @@ use Rattle.giop_sig.specs.Repeats.{in_steps}
 -- ---- names
 
 -- a name that isn't in `seen`, which may have `most` names
-unfoldable pub new_name_at : (version_3 : Bool) (most : ℕ) (seen : List (List ℕ)) (text : List ℕ) →
-    Result (List ℕ × List ℕ) TokenError
+unfoldable pub new_name_at : (version_3 : Bool) (most_names : ℕ) (seen_names : List (List ℕ))
+    (text : List ℕ) → Result (List ℕ × List ℕ) TokenError
 new_name_at third most seen text = do
   n ← identifier_at third text
   if is_among seen n.0 then Err (refused kinds.Duplicate text)
@@ -31,9 +31,8 @@ new_name_at third most seen text = do
 
 -- the new name of an enum, struct, union or exception; the scope has `count` of these, and `word`
 -- is the first word of a struct or union
-unfoldable pub declared_name_at : (scope : Scope) (word : Option TypeWord) (count : ℕ)
-    (text : List ℕ) →
-    Result (List ℕ × List ℕ) TokenError
+unfoldable pub declared_name_at : (scope : Scope) (struct_or_union : Option TypeWord)
+    (declared_count : ℕ) (text : List ℕ) → Result (List ℕ × List ℕ) TokenError
 declared_name_at s word count text = do
   n ← identifier_at (is_version_3 s.names) text
   if is_name_taken s.names word n.0 then Err (refused kinds.Duplicate text)
@@ -48,19 +47,19 @@ ItemRead = Scope × Part × List ℕ
 abbrev pub LengthsRead : Type 0
 LengthsRead = List ℕ × List ℕ
 
-abbrev pub with_outer_length : (size : ℕ) (lengths : LengthsRead) → LengthsRead
+abbrev pub with_outer_length : (outer_length : ℕ) (inner_lengths : LengthsRead) → LengthsRead
 with_outer_length size ls = (size ∷ ls.0, ls.1)
 
 -- a length, if there is one, and the others
-abbrev pub lengths_after : (others : List ℕ → Result LengthsRead TokenError)
-    (first : Option ℕ × List ℕ) → Result LengthsRead TokenError
+abbrev pub lengths_after : (other_lengths_at : List ℕ → Result LengthsRead TokenError)
+    (first_length_and_rest : Option ℕ × List ℕ) → Result LengthsRead TokenError
 lengths_after others (None, rest) = Ok ([], rest)
 lengths_after others (Some n, rest) = do
   ls ← others rest
   Ok (with_outer_length n ls)
 
 -- the lengths that come next, at most `most`
-unfoldable pub lengths_at : (most : ℕ) (text : List ℕ) → Result LengthsRead TokenError
+unfoldable pub lengths_at : (most_array_lengths : ℕ) (text : List ℕ) → Result LengthsRead TokenError
 lengths_at zero text = Ok ([], text)
 lengths_at (suc most) text = do
   l ← enclosed_size_at marks.OpenBracket marks.CloseBracket text
@@ -72,11 +71,11 @@ abbrev pub most_lengths : (version_3 : Bool) (text : List ℕ) → ℕ
 most_lengths third text = if third then length text else 1
 
 -- an item with a type that was read and this name
-abbrev pub item_read : (added : AddedType) (name rest : List ℕ) → ItemRead
+abbrev pub item_read : (scope_and_type : AddedType) (item_name rest : List ℕ) → ItemRead
 item_read p name rest = (p.0, part name p.1, rest)
 
-unfoldable pub item_at : (most : ℕ) (seen : List (List ℕ)) (scope : Scope) (text : List ℕ) →
-    Result ItemRead TokenError
+unfoldable pub item_at : (most_names : ℕ) (seen_names : List (List ℕ)) (scope : Scope)
+    (text : List ℕ) → Result ItemRead TokenError
 item_at most seen s text = do
   t ← type_at s text
   n ← new_name_at (is_version_3 s.names) most seen t.2
@@ -89,19 +88,20 @@ item_at most seen s text = do
 abbrev pub MembersSoFar : Type 0
 MembersSoFar = Scope × List (List ℕ) × List Part × List ℕ
 
-unfoldable pub member_at : (members : MembersSoFar) → Result (Bool × MembersSoFar) TokenError
+unfoldable pub member_at : (members_so_far : MembersSoFar) → Result (Bool × MembersSoFar) TokenError
 member_at m = do
   i ← item_at 256 m.1 m.0 m.3
   r ← mark_at marks.Semicolon i.2
   Ok (false, (i.0, m.1 ++ (i.1).name ∷ [], m.2 ++ i.1 ∷ [], r))
 
-abbrev pub member_after : (members : MembersSoFar) (rest : Option (List ℕ)) →
+abbrev pub member_after : (members_so_far : MembersSoFar) (rest_after_brace : Option (List ℕ)) →
     Result (Bool × MembersSoFar) TokenError
 member_after m (Some rest) = Ok (true, (m.0, m.1, m.2, rest))
 member_after m None = member_at m
 
 -- the closing mark, or one more member
-unfoldable pub member_step : (members : MembersSoFar) → Result (Bool × MembersSoFar) TokenError
+unfoldable pub member_step : (members_so_far : MembersSoFar) →
+    Result (Bool × MembersSoFar) TokenError
 member_step m = do
   c ← mark_if marks.CloseBrace m.3
   member_after m c
@@ -112,22 +112,24 @@ too_many_members m = refused kinds.Limit m.3
 abbrev pub MembersRead : Type 0
 MembersRead = Scope × List Part × List ℕ
 
-abbrev pub members_read : (members : MembersSoFar) → Result MembersRead TokenError
+abbrev pub members_read : (members_so_far : MembersSoFar) → Result MembersRead TokenError
 members_read m = Ok (m.0, m.2, m.3)
 
 -- members up to the closing mark, in at most `count` steps
-abbrev pub members_run : (count : ℕ) (members : MembersSoFar) → Result MembersRead TokenError
+abbrev pub members_run : (most_steps : ℕ) (members_so_far : MembersSoFar) →
+    Result MembersRead TokenError
 members_run count m = in_steps member_step too_many_members count m >>= members_read
 
-abbrev pub members_at : (scope : Scope) (text : List ℕ) → Result MembersRead TokenError
+abbrev pub members_at : (scope : Scope) (text_after_brace : List ℕ) → Result MembersRead TokenError
 members_at s text = members_run 257 (s, [], [], text)
 
-abbrev pub unless_closed : (text : List ℕ) (rest : Option (List ℕ)) → Result (List ℕ) TokenError
+abbrev pub unless_closed : (text : List ℕ) (rest_after_brace : Option (List ℕ)) →
+    Result (List ℕ) TokenError
 unless_closed text None = Ok text
 unless_closed text (Some rest) = Err (refused kinds.Empty text)
 
 -- a list that doesn't end at once
-unfoldable pub non_empty_list_at : (text : List ℕ) → Result (List ℕ) TokenError
+unfoldable pub non_empty_list_at : (text_after_brace : List ℕ) → Result (List ℕ) TokenError
 non_empty_list_at text = do
   c ← mark_if marks.CloseBrace text
   unless_closed text c
@@ -139,8 +141,8 @@ abbrev pub IdentityRead : Type 0
 IdentityRead = Option (List ℕ) × List ℕ
 
 -- a new repository id, which is the first token of the text; nothing if that is another token
-abbrev pub identity_after : (scope : Scope) (text : List ℕ) (id : Option (List ℕ)) (rest : List ℕ) →
-    Result IdentityRead TokenError
+abbrev pub identity_after : (scope : Scope) (text_from_token : List ℕ)
+    (repository_id : Option (List ℕ)) (rest_after_token : List ℕ) → Result IdentityRead TokenError
 identity_after s text None rest = Ok (None, text)
 identity_after s text (Some id) rest =
     if is_some (identified_in s.table id) then Err (refused kinds.Duplicate text)
@@ -162,39 +164,39 @@ abbrev pub DeclarationRead : Type 0
 DeclarationRead = Scope × List ℕ
 
 -- a type is too deep in the declaration from whose name on this many octets are left
-abbrev pub too_deep : (left_from_name : ℕ) → TokenError
+abbrev pub too_deep : (octets_left_from_name : ℕ) → TokenError
 too_deep at = record { kind = kinds.Depth; left = at }
 
 -- the end of a declaration from whose name on this many octets are left, with the scope that it
 -- makes: a semicolon, and no type is too deep
-unfoldable pub declaration_end_at : (left_from_name : ℕ) (scope : Scope) (text : List ℕ)
-    → Result DeclarationRead TokenError
+unfoldable pub declaration_end_at : (octets_left_from_name : ℕ) (scope : Scope) (text : List ℕ) →
+    Result DeclarationRead TokenError
 declaration_end_at at s text = do
   r ← mark_at marks.Semicolon text
   if nat_le (depth_of s.table.types) 24 then Ok (s, r) else Err (too_deep at)
 
 -- the end of an enum, struct or union, whose type has this node, and a repository id if it has one
-abbrev pub type_end_at : (left_from_name : ℕ) (name : List ℕ) (id : Option (List ℕ)) (scope : Scope)
-    (node : Node)
-    (text : List ℕ) → Result DeclarationRead TokenError
+abbrev pub type_end_at : (octets_left_from_name : ℕ) (name : List ℕ)
+    (repository_id : Option (List ℕ)) (scope : Scope) (node : Node) (text : List ℕ) →
+    Result DeclarationRead TokenError
 type_end_at at name id s node text = declaration_end_at at
     (with_named name id (with_node s node)) text
 
 -- ---- announcements
 
-abbrev pub announces_by : (text : List ℕ) → Result Bool TokenError
+abbrev pub announces_by : (text_after_name : List ℕ) → Result Bool TokenError
 announces_by text = do
   rest ← mark_if marks.Semicolon text
   Ok (is_some rest)
 
 -- whether a declaration ends after its name, and so announces it; it may do so in a file of version
 -- 3 only
-unfoldable pub announces_at : (scope : Scope) (text : List ℕ) → Result Bool TokenError
+unfoldable pub announces_at : (scope : Scope) (text_after_name : List ℕ) → Result Bool TokenError
 announces_at s text = if is_version_3 s.names then announces_by text else Ok false
 
 -- the end of an announcement, whose name is at the front of `text` and must not be announced yet
-unfoldable pub announcement_at : (scope : Scope) (word : TypeWord) (text name rest : List ℕ) →
-    Result DeclarationRead TokenError
+unfoldable pub announcement_at : (scope : Scope) (struct_or_union : TypeWord)
+    (text_from_name name rest_after_name : List ℕ) → Result DeclarationRead TokenError
 announcement_at s word text name rest =
     if is_some (announced_as s.names name) then Err (refused kinds.Duplicate text)
     else declaration_end_at (octets_left_at_token text)
@@ -203,8 +205,8 @@ announcement_at s word text name rest =
 -- ---- declarations of members, each after its first word
 
 -- a struct, after its name, which is at the front of `text`
-unfoldable pub structure_after : (scope : Scope) (text name rest : List ℕ)
-    → Result DeclarationRead TokenError
+unfoldable pub structure_after : (scope : Scope) (text_from_name name rest_after_name : List ℕ) →
+    Result DeclarationRead TokenError
 structure_after s text name rest = do
   i ← identity_at s rest
   o ← mark_at marks.OpenBrace i.1
@@ -213,7 +215,8 @@ structure_after s text name rest = do
   type_end_at (octets_left_at_token text) name i.0 m.0 (nodes.members m.1) m.2
 
 -- a struct, or its announcement
-unfoldable pub structure_at : (scope : Scope) (text : List ℕ) → Result DeclarationRead TokenError
+unfoldable pub structure_at : (scope : Scope) (text_after_keyword : List ℕ) →
+    Result DeclarationRead TokenError
 structure_at s text = do
   n ← declared_name_at s (Some type_words.Struct) s.table.declared text
   a ← announces_at s n.1
@@ -227,7 +230,8 @@ new_repository_at s text = do
   i ← repository_at text
   if is_some (exception_in s.table i.0) then Err (refused kinds.Duplicate text) else Ok (i.0, i.1)
 
-unfoldable pub exception_at : (scope : Scope) (text : List ℕ) → Result DeclarationRead TokenError
+unfoldable pub exception_at : (scope : Scope) (text_after_keyword : List ℕ) →
+    Result DeclarationRead TokenError
 exception_at s text = do
   n ← declared_name_at s None (length s.table.exceptions) text
   i ← new_repository_at s n.1

@@ -5,7 +5,7 @@ use Rattle.std.specs.Prelude.{ℕ, ◌==◌, ◌||◌, Bool, cond, codes, List, 
 -- Whether a number with this mark is a kind. Mark 0 is that of a kind that tells the type of a
 -- value, 1 that of the bound of a sequence, 2 that of any other kind, and 3 to 6 are those of
 -- numbers that may have names (Names).
-abbrev pub is_kind : (mark : ℕ) → Bool
+abbrev pub is_kind : (mark_of_number : ℕ) → Bool
 is_kind mark = (mark == 0) || (mark == 2)
 
 -- the words of the kinds, from kind 0 on
@@ -23,10 +23,10 @@ kind_words =
     ∷ codes "tk_home" ∷ codes "tk_event" ∷ []
 
 -- the word of a kind; 4294967295 isn't a kind, and refers to an earlier TypeCode
-abbrev pub kind_word : (number : ℕ) → Option (List ℕ)
+abbrev pub kind_word : (typecode_kind : ℕ) → Option (List ℕ)
 kind_word number =
     cond (number == 4294967295) (Some (codes "indirection")) (slice_get kind_words number)
 
 -- the word of a number with this mark; none if it isn't a kind
-abbrev pub marked_word : (mark number : ℕ) → Option (List ℕ)
+abbrev pub marked_word : (mark_of_number number : ℕ) → Option (List ℕ)
 marked_word mark number = cond (is_kind mark) (kind_word number) None

@@ -11,13 +11,13 @@ use Rattle.giop_sig.specs.declared.numbers.TheConstants.{NAMED}
 use Rattle.giop_sig.specs.Table.{Node, Part, Case}
 use Rattle.giop_sig.specs.Table as nodes
 
-abbrev pub literal_part : (member : Named) → Part
+abbrev pub literal_part : (name_and_type : Named) → Part
 literal_part p = record { name = p.0.now; type = p.1 }
 
-abbrev pub literal_case : (labelled : Labelled) → Case
+abbrev pub literal_case : (label_name_and_type : Labelled) → Case
 literal_case c = record { labels = Signed c.0 ∷ []; part = record { name = c.1.now; type = c.2 } }
 
-abbrev pub literal_parameters : (parameters : Parameters) → Case
+abbrev pub literal_parameters : (labels_name_and_type : Parameters) → Case
 literal_parameters p =
     record { labels = map Unsigned p.0.now; part = record { name = p.1.now; type = p.2 } }
 

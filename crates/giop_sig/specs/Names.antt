@@ -22,7 +22,7 @@ profile_names =
     ∷ codes "TAG_UIPMC" ∷ []
 
 -- the name of a code set (the OSF registry of character and code sets)
-unfoldable pub code_set_name : (number : ℕ) → Option (List ℕ)
+unfoldable pub code_set_name : (osf_registry_number : ℕ) → Option (List ℕ)
 code_set_name number =
     cond (number == 0x00010001) (Some (codes "ISO_8859_1"))
     (cond (number == 0x00010020) (Some (codes "ISO_646"))
@@ -32,28 +32,28 @@ code_set_name number =
     (cond (number == 0x05010001) (Some (codes "UTF_8")) None)))))
 
 -- the vendor with these upper 20 bits of minor codes (IDL to wire mapping, Minor Code Allocation)
-unfoldable pub vendor_name : (number : ℕ) → Option (List ℕ)
+unfoldable pub vendor_name : (minor_code_upper_20_bits : ℕ) → Option (List ℕ)
 vendor_name number =
     cond (number == 0x4f4d0) (Some (codes "OMG"))
     (cond (number == 0x41540) (Some (codes "omniORB"))
     (cond (number == 0x54410) (Some (codes "TAO")) None))
 
 -- the name of a minor code: its vendor, and its lower 12 bits as the vendor's code
-abbrev pub minor_name : (number : ℕ) → Option (List ℕ)
+abbrev pub minor_name : (minor_code : ℕ) → Option (List ℕ)
 minor_name number =
     option_map (λ vendor. vendor ++ (codes " " ++ decimal (number % 4096)))
     (vendor_name (number / 4096))
 
 -- the name of a number with this mark: mark 3 is that of the ids of service contexts, 4 of the tags
 -- of profiles, 5 of code sets, and 6 of minor codes; kinds and bounds of TypeCodes have no names
-unfoldable pub marked_name : (mark number : ℕ) → Option (List ℕ)
+unfoldable pub marked_name : (mark marked_number : ℕ) → Option (List ℕ)
 marked_name mark number =
     cond (mark == 3) (slice_get context_names number)
     (cond (mark == 4) (slice_get profile_names number)
     (cond (mark == 5) (code_set_name number) (cond (mark == 6) (minor_name number) None)))
 
 -- a word as it is written, and then the code if there is one
-abbrev pub text_with_code : (word : List ℕ) (code : Option ℕ) → List ℕ
+abbrev pub text_with_code : (word : List ℕ) (code_after_space : Option ℕ) → List ℕ
 text_with_code word None = word
 text_with_code word (Some code) = word ++ (codes " " ++ decimal code)
 

@@ -23,6 +23,6 @@ operation_structs_view c = record {
 }
 
 -- a scope has the same types as before, and as many operations
-pub record KeepsTypes (before s : Scope) : Type 0 where
-  pub types : s.table.types ≡ before.table.types
-  pub called : s.table.called ≡ before.table.called
+pub record KeepsTypes (scope_before scope : Scope) : Type 0 where
+  pub types : scope.table.types ≡ scope_before.table.types
+  pub called : scope.table.called ≡ scope_before.table.called

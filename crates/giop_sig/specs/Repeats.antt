@@ -5,7 +5,7 @@ use Rattle.giop_tokens.specs.Reading.{◌>>=◌}
 
 -- at most `left` steps; if none of them is the last, the state after them is refused
 unfoldable pub in_steps : {S : Type 0} (step : S → Result (Bool × S) TokenError)
-    (limit : S → TokenError) (left : ℕ) (s : S) → Result S TokenError
+    (error_if_not_done : S → TokenError) (most_steps : ℕ) (state : S) → Result S TokenError
 in_steps step limit zero s = Err (limit s)
 in_steps step limit (suc left) s = do
   x ← step s

@@ -44,17 +44,17 @@ abbrev pub allows_third_word : (table : Table) → Bool
 allows_third_word C = C.version == 3
 
 -- what an entry may ask for; a repository id is spelled like a name
-pub record IsAsked (third_word : Bool) (a : Asked) : Type 0 where
-  pub name : IsName a.name
-  pub interface : IfSome a.interface (λ id. IsTrue third_word × IsName id)
+pub record IsAsked (third_word_allowed : Bool) (asked : Asked) : Type 0 where
+  pub name : IsName asked.name
+  pub interface : IfSome asked.interface (λ id. IsTrue third_word_allowed × IsName id)
 
 -- an entry that a line may be
-pub record IsEntry (third_word : Bool) (e : Entry) : Type 0 where
-  pub id : e.id < 2 ^ 32
-  pub asked : IsAsked third_word e.asked
+pub record IsEntry (third_word_allowed : Bool) (entry : Entry) : Type 0 where
+  pub id : entry.id < 2 ^ 32
+  pub asked : IsAsked third_word_allowed entry.asked
 
 -- a name, or a name, a space and a repository id
-abbrev pub words : (name : List ℕ) (id : Option (List ℕ)) → List ℕ
+abbrev pub words : (operation_name : List ℕ) (interface_id : Option (List ℕ)) → List ℕ
 words name None = name
 words name (Some id) = name ++ 32 ∷ id
 
@@ -63,30 +63,31 @@ abbrev pub line_of : (entry : Entry) → List ℕ
 line_of e = decimal e.id ++ 32 ∷ words e.asked.name e.asked.interface
 
 -- the line is that of an entry
-abbrev pub IsEntryLine : (third_word : Bool) (line : List ℕ) → Type 0
+abbrev pub IsEntryLine : (third_word_allowed : Bool) (line : List ℕ) → Type 0
 IsEntryLine third_word line = (e : Entry) × IsEntry third_word e × (line ≡ line_of e)
 
 -- the text is the list of these entries
-pub record Lists (third_word : Bool) (text : List ℕ) (es : List Entry) : Type 0 where
+pub record Lists (third_word_allowed : Bool) (text : List ℕ) (listed_entries : List Entry)
+    : Type 0 where
   pub octets : length text ≤ 16777216
-  pub count : length es ≤ 65536
-  pub entries : All (IsEntry third_word) es
-  pub spelled : lines text ≡ map line_of es
+  pub count : length listed_entries ≤ 65536
+  pub entries : All (IsEntry third_word_allowed) listed_entries
+  pub spelled : lines text ≡ map line_of listed_entries
 
 -- ---- the refusals
 
 -- the lines before the k-th one, which is this, are entries
-pub record ReachesLine (third_word : Bool) (text : List ℕ) (es : List Entry) (line : List ℕ)
-    (k : ℕ) : Type 0 where
+pub record ReachesLine (third_word_allowed : Bool) (text : List ℕ) (entries_before : List Entry)
+    (line : List ℕ) (line_number_from_1 : ℕ) : Type 0 where
   pub octets : length text ≤ 16777216
-  pub entries : All (IsEntry third_word) es
-  pub rest : (after : List (List ℕ)) × (lines text ≡ map line_of es ++ line ∷ after)
-  pub number : k ≡ length es + 1
+  pub entries : All (IsEntry third_word_allowed) entries_before
+  pub rest : (after : List (List ℕ)) × (lines text ≡ map line_of entries_before ++ line ∷ after)
+  pub number : line_number_from_1 ≡ length entries_before + 1
 
 -- the first line that is refused is the k-th, for this reason: it isn't an entry, or the text is
 -- too long, or the line is an entry too many
-abbrev pub IsRefusedAs : (third_word : Bool) (text : List ℕ) (line : ℕ) (kind : ListFaultKind)
-    → Type 0
+abbrev pub IsRefusedAs : (third_word_allowed : Bool) (text : List ℕ) (first_refused_line_from_1 : ℕ)
+    (refusal_kind : ListFaultKind) → Type 0
 IsRefusedAs third_word text k Syntax =
     (es : List Entry) × (line : List ℕ) × ReachesLine third_word text es line k
     × (length es ≤ 65536) × ¬ (IsEntryLine third_word line)
@@ -99,7 +100,7 @@ IsRefusedAs third_word text k OutOfMemory = k ≡ 0
 -- ---- the operation of an id
 
 -- what the entries with an id ask for
-abbrev pub asked_of : (entries : List Entry) (id : ℕ) → List Asked
+abbrev pub asked_of : (entries : List Entry) (request_id : ℕ) → List Asked
 asked_of entries id = map (λ e. e.asked) (filter (λ e. id == e.id) entries)
 
 -- whether the names are the same, and so are the interfaces, or there are none
@@ -107,7 +108,7 @@ abbrev pub same_asked : (one other : Asked) → Bool
 same_asked a b = bytes_eq a.name b.name && option_eq bytes_eq a.interface b.interface
 
 -- the one that all of these are the same as
-abbrev pub common_asked : (others : List Asked) → Option Asked
+abbrev pub common_asked : (all_asked : List Asked) → Option Asked
 common_asked [] = None
 common_asked (a ∷ others) = if list_all (same_asked a) others then Some a else None
 
@@ -116,7 +117,8 @@ abbrev pub OperationLookup : Type 0
 OperationLookup = List ℕ → Option (List ℕ) → Option ℕ
 
 -- the operation of an id, if all its entries have the same name and the same interface or none
-abbrev pub operation_of : (find : OperationLookup) (entries : List Entry) (id : ℕ) → Option ℕ
+abbrev pub operation_of : (find : OperationLookup) (entries : List Entry) (request_id : ℕ) →
+    Option ℕ
 operation_of find entries id =
     option_and_then (λ a. find a.name a.interface) (common_asked (asked_of entries id))
 
@@ -127,7 +129,7 @@ option_flatten None = None
 option_flatten (Some x) = x
 
 -- the operation that is stored for an id
-abbrev pub kept_operation : (kept : List (ℕ × Option OpId)) (id : ℕ) → Option OpId
+abbrev pub kept_operation : (stored_by_id : List (ℕ × Option OpId)) (request_id : ℕ) → Option OpId
 kept_operation kept id = option_flatten (lookup (nat_eq id) kept)
 
 -- the ids of entries, each once, in the order of their first entries
@@ -136,7 +138,7 @@ ids_of [] = []
 ids_of (e ∷ es) = e.id ∷ filter (λ id. not (id == e.id)) (ids_of es)
 
 -- the operation with a number
-abbrev pub as_operation : (number : ℕ) → OpId
+abbrev pub as_operation : (operation_number : ℕ) → OpId
 as_operation number = record { 0 = number }
 
 -- the ids, each with what all its entries ask for
@@ -144,7 +146,7 @@ abbrev pub common_asked_by_id : (entries : List Entry) → List (ℕ × Option A
 common_asked_by_id entries = map (λ id. (id, common_asked (asked_of entries id))) (ids_of entries)
 
 -- an id with the operation that is found for what is asked for
-abbrev pub with_found_operation : (find : OperationLookup) (entry : ℕ × Option Asked) → ℕ
+abbrev pub with_found_operation : (find : OperationLookup) (id_and_asked : ℕ × Option Asked) → ℕ
     × Option OpId
 with_found_operation find entry =
     (entry.0, option_map as_operation (option_and_then (λ a. find a.name a.interface) entry.1))
@@ -156,14 +158,15 @@ operations_by_id find entries =
     map (λ id. (id, option_map as_operation (operation_of find entries id))) (ids_of entries)
 
 -- what is stored gives the same operations as the list
-pub record AgreesWithList (find : OperationLookup) (es : List Entry)
-    (kept : List (ℕ × Option OpId)) : Type 0 where
-  pub operation : (id : ℕ) → option_map (λ o. o.0) (kept_operation kept id)
-      ≡ operation_of find es id
-  pub count : length kept ≡ distinct_count nat_eq (map (λ e. e.id) es)
+pub record AgreesWithList (find : OperationLookup) (entries : List Entry)
+    (stored_by_id : List (ℕ × Option OpId)) : Type 0 where
+  pub operation : (id : ℕ) → option_map (λ o. o.0) (kept_operation stored_by_id id)
+      ≡ operation_of find entries id
+  pub count : length stored_by_id ≡ distinct_count nat_eq (map (λ e. e.id) entries)
 
 -- what all entries of an id ask for, after one more entry
-abbrev pub merged_asked : (kept : Option (Option Asked)) (asked : Asked) → Option Asked
+abbrev pub merged_asked : (asked_before : Option (Option Asked)) (asked_by_next_entry : Asked) →
+    Option Asked
 merged_asked None a = Some a
 merged_asked (Some None) a = None
 merged_asked (Some (Some b)) a = if same_asked b a then Some b else None

@@ -8,5 +8,5 @@ abbrev pub words_view : (words : Words) → Asked
 words_view w = record { name = w.name.now; interface = option_map (λ id. id.now) w.interface }
 
 -- an id, with what all its entries ask for
-abbrev pub asked_view : (entry : ℕ × Option Words) → ℕ × Option Asked
+abbrev pub asked_view : (id_and_words : ℕ × Option Words) → ℕ × Option Asked
 asked_view entry = (entry.0, option_map words_view entry.1)

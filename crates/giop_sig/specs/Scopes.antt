@@ -59,14 +59,14 @@ first_scope version =
     }
 
 -- the type of a name
-abbrev pub named : (names : Names) (name : List ℕ) → Option ℕ
+abbrev pub named : (names : Names) (type_name : List ℕ) → Option ℕ
 named names name = option_flatten (lookup (bytes_eq name) names.known)
 
 -- how a name is announced
 abbrev pub announced_as : (names : Names) (name : List ℕ) → Option Announced
 announced_as names name = lookup (bytes_eq name) names.announced
 
-abbrev pub declared_or_announced : (element : Bool) (number : Option ℕ)
+abbrev pub declared_or_announced : (is_sequence_element : Bool) (declared_type : Option ℕ)
     (announced : Option Announced)
     → Option ℕ
 declared_or_announced element (Some number) a = Some number
@@ -75,11 +75,11 @@ declared_or_announced element None a = None
 
 -- The type of a name in an expression. A name that is only announced has one as the element of a
 -- sequence alone.
-abbrev pub type_named : (element : Bool) (names : Names) (name : List ℕ) → Option ℕ
+abbrev pub type_named : (is_sequence_element : Bool) (names : Names) (name : List ℕ) → Option ℕ
 type_named element names name = declared_or_announced element (named names name)
     (announced_as names name)
 
-abbrev pub number_or_0 : (number : Option ℕ) → ℕ
+abbrev pub number_or_0 : (type_number : Option ℕ) → ℕ
 number_or_0 None = 0
 number_or_0 (Some number) = number
 
@@ -116,25 +116,26 @@ abbrev pub announced_index : (node : Node) → Option ℕ
 announced_index (nodes.announced index) = Some index
 announced_index node = None
 
-abbrev pub sequence_by : (bound : Option ℕ) (element : ℕ) (index : Option ℕ) → Node
+abbrev pub sequence_by : (bound : Option ℕ) (element_type : ℕ) (announcement_index : Option ℕ) →
+    Node
 sequence_by bound element None = nodes.sequence bound element
 sequence_by bound element (Some index) = nodes.recursive bound index
 
 -- a sequence of octets (type number 0) has a node of its own, and so has one of a type that is
 -- announced
-abbrev pub sequence_node : (types : List Node) (bound : Option ℕ) (element : ℕ) → Node
+abbrev pub sequence_node : (types : List Node) (bound : Option ℕ) (element_type : ℕ) → Node
 sequence_node types bound element =
     if element == 0 then nodes.octets bound
     else sequence_by bound element (announced_index (node_in types element))
 
-abbrev pub add_text_type : (scope : Scope) (number : Option ℕ) → AddedType
+abbrev pub add_text_type : (scope : Scope) (bound : Option ℕ) → AddedType
 add_text_type s None = (s, STRING)
 add_text_type s (Some number) = with_node s (nodes.text (Some number))
 
-abbrev pub add_sequence_type : (bound : Option ℕ) (added : AddedType) → AddedType
+abbrev pub add_sequence_type : (bound : Option ℕ) (added_element : AddedType) → AddedType
 add_sequence_type bound p = with_node p.0 (sequence_node (p.0).table.types bound p.1)
 
-abbrev pub add_encapsulation_type : (added : AddedType) → AddedType
+abbrev pub add_encapsulation_type : (added_content : AddedType) → AddedType
 add_encapsulation_type p = with_node p.0 (nodes.encapsulation p.1)
 
 -- the types that an expression adds, and the number of its own type
@@ -152,24 +153,24 @@ add_type s (EncapsulationOf e) = add_encapsulation_type (add_type s e)
 
 -- ---- items
 
-abbrev pub add_array : (number : ℕ) (added : AddedType) → AddedType
+abbrev pub add_array : (array_length : ℕ) (added_element : AddedType) → AddedType
 add_array number p = with_node p.0 (nodes.array number p.1)
 
 -- an array whose length is the first one, with arrays of the other lengths as elements
-abbrev pub add_arrays : (lengths : List ℕ) (added : AddedType) → AddedType
+abbrev pub add_arrays : (lengths_outermost_first : List ℕ) (added_element : AddedType) → AddedType
 add_arrays [] p = p
 add_arrays (n ∷ ns) p = add_array n (add_arrays ns p)
 
 abbrev pub add_item : (scope : Scope) (item : Item) → AddedType
 add_item s i = add_arrays i.lengths (add_type s i.type)
 
-abbrev pub part : (name : List ℕ) (number : ℕ) → Part
+abbrev pub part : (name : List ℕ) (type_number : ℕ) → Part
 part w number = record { name = w; type = number }
 
-abbrev pub item_part : (item : Item) (added : AddedType) → Part
+abbrev pub item_part : (item : Item) (added_type : AddedType) → Part
 item_part i p = part i.name p.1
 
-abbrev pub with_part : (p : Part) (added : Scope × List Part) → Scope × List Part
+abbrev pub with_part : (first_part : Part) (scope_and_parts : Scope × List Part) → Scope × List Part
 with_part p added = (added.0, p ∷ added.1)
 
 -- the members of a struct, with the numbers of their types
@@ -181,19 +182,19 @@ add_items s (i ∷ is) =
 -- ---- the cases of a union
 
 -- a negative number of a signed type
-abbrev pub below : (number : ℕ) → ℤ
+abbrev pub below : (magnitude : ℕ) → ℤ
 below number = pos 0 -ℤ pos number
 
-abbrev pub if_at_most : (most whole : ℕ) (number : Number) → Option Number
+abbrev pub if_at_most : (most checked_number : ℕ) (result : Number) → Option Number
 if_at_most most whole number = if nat_le whole most then Some number else None
 
 -- the enumerator at an index
-abbrev pub enumerator_number : (index : Option ℕ) → Option Number
+abbrev pub enumerator_number : (enumerator_index : Option ℕ) → Option Number
 enumerator_number None = None
 enumerator_number (Some index) = Some (numbers.Unsigned index)
 
 -- the value of a discriminator's type that a label names; none if the type has no such value
-abbrev pub label_number : (node : Node) (value : Value) → Option Number
+abbrev pub label_number : (discriminator_node : Node) (label_value : Value) → Option Number
 label_number (nodes.prim prims.Char) (Plain n) = if_at_most 255 n (numbers.Char n)
 label_number (nodes.prim prims.Boolean) (Truth b) = Some (numbers.Truth b)
 label_number (nodes.prim prims.Short) (Plain n) = if_at_most 32767 n (numbers.Signed (pos n))
@@ -212,12 +213,12 @@ label_number (nodes.enumeration names) (Enumerator w) = enumerator_number
     (position (bytes_eq w) names)
 label_number node v = None
 
-abbrev pub onto_some : (number : Option Number) (numbers : List Number) → List Number
+abbrev pub onto_some : (first_number : Option Number) (later_numbers : List Number) → List Number
 onto_some None numbers = numbers
 onto_some (Some n) numbers = n ∷ numbers
 
 -- the values that labels name; the default names none
-abbrev pub label_numbers : (node : Node) (labels : List Label) → List Number
+abbrev pub label_numbers : (discriminator_node : Node) (labels : List Label) → List Number
 label_numbers node [] = []
 label_numbers node (Default ∷ ls) = label_numbers node ls
 label_numbers node (Of v ∷ ls) = onto_some (label_number node v) (label_numbers node ls)
@@ -230,23 +231,24 @@ has_default (Of v ∷ ls) = has_default ls
 abbrev pub labels_of : (declared_case : UnionCase) → List Label
 labels_of c = c.label ∷ c.others
 
-abbrev pub union_case : (node : Node) (declared_case : UnionCase) (added : AddedType) → Case
+abbrev pub union_case : (discriminator_node : Node) (declared_case : UnionCase)
+    (added_type : AddedType) → Case
 union_case node c p =
     record { labels = label_numbers node (labels_of c); part = item_part c.item p }
 
-abbrev pub with_case : (case : Case) (added : Scope × List Case) → Scope × List Case
+abbrev pub with_case : (first_case : Case) (scope_and_cases : Scope × List Case) → Scope × List Case
 with_case c added = (added.0, c ∷ added.1)
 
 -- the cases of a union whose discriminator has a type of this node
-unfoldable pub add_cases : (scope : Scope) (node : Node) (cases : List UnionCase) → Scope
-    × List Case
+unfoldable pub add_cases : (scope : Scope) (discriminator_node : Node) (cases : List UnionCase) →
+    Scope × List Case
 add_cases s node [] = (s, [])
 add_cases s node (c ∷ cs) =
     with_case (union_case node c (add_item s c.item))
     (add_cases (add_item s c.item).0 node cs)
 
 -- what is selected if no label is the number: the first case with the default
-abbrev pub default_from : (index : ℕ) (cases : List UnionCase) → Selected
+abbrev pub default_from : (first_case_index : ℕ) (cases : List UnionCase) → Selected
 default_from index [] = selecteds.Nothing
 default_from index (c ∷ cs) =
     if has_default (labels_of c) then selecteds.Case index else default_from (index + 1) cs
@@ -257,18 +259,20 @@ default_from index (c ∷ cs) =
 abbrev pub AddedParameters : Type 0
 AddedParameters = Scope × List Part × List Part
 
-abbrev pub onto_request : (direction : Direction) (p : Part) (parts : List Part) → List Part
+abbrev pub onto_request : (direction : Direction) (parameter : Part) (later_parts : List Part) →
+    List Part
 onto_request directions.In p parts = p ∷ parts
 onto_request directions.Out p parts = parts
 onto_request directions.Inout p parts = p ∷ parts
 
-abbrev pub onto_reply : (direction : Direction) (p : Part) (parts : List Part) → List Part
+abbrev pub onto_reply : (direction : Direction) (parameter : Part) (later_parts : List Part) →
+    List Part
 onto_reply directions.In p parts = parts
 onto_reply directions.Out p parts = p ∷ parts
 onto_reply directions.Inout p parts = p ∷ parts
 
-abbrev pub with_param : (direction : Direction) (member : Part) (added : AddedParameters) →
-    AddedParameters
+abbrev pub with_param : (direction : Direction) (parameter : Part)
+    (later_parameters : AddedParameters) → AddedParameters
 with_param d p x = (x.0, onto_request d p x.1, onto_reply d p x.2)
 
 unfoldable pub add_params : (scope : Scope) (params : List Param) → AddedParameters
@@ -278,29 +282,30 @@ add_params s (p ∷ ps) =
     (add_params (add_item s p.item).0 ps)
 
 -- what an operation returns, as a member of its replies
-abbrev pub add_return : (scope : Scope) (type : Option TypeExpr) → Scope × List Part
+abbrev pub add_return : (scope : Scope) (return_type : Option TypeExpr) → Scope × List Part
 add_return s None = (s, [])
 add_return s (Some e) = ((add_type s e).0, part (codes "return") (add_type s e).1 ∷ [])
 
 -- ---- declarations
 
-abbrev pub with_name : (scope : Scope) (name : List ℕ) (number : Option ℕ) → Scope
+abbrev pub with_name : (scope : Scope) (name : List ℕ) (type_number : Option ℕ) → Scope
 with_name s name number =
     record s { names = record (s.names) { known = s.names.known ++ (name, number) ∷ [] } }
 
 -- the table with the fronts of a type's repository id
-abbrev pub with_id_fronts : (t : Table) (id : List ℕ) (number : ℕ) → Table
+abbrev pub with_id_fronts : (table : Table) (repository_id : List ℕ) (type_number : ℕ) → Table
 with_id_fronts t id number =
     record t { fronts = with_fronts (typecode_kind (node_at t number)) id t.fronts }
 
 -- The table with the sequence of a type, which an any may hold. A sequence that is too deep fits
 -- into no any, and isn't added.
-abbrev pub with_sequence : (t : Table) (number : ℕ) → Table
+abbrev pub with_sequence : (table : Table) (element_type : ℕ) → Table
 with_sequence t number =
     cond (nat_lt (depth_in t.types number) 24) (with_type t (nodes.sequence None number)) t
 
 -- the table with the repository id of a type, if it has one
-abbrev pub with_identified : (t : Table) (id : Option (List ℕ)) (number : ℕ) → Table
+abbrev pub with_identified : (table : Table) (repository_id : Option (List ℕ)) (type_number : ℕ) →
+    Table
 with_identified t None number = t
 with_identified t (Some id) number =
     with_sequence (with_id_fronts
@@ -311,7 +316,7 @@ abbrev pub add_announced_type : (scope : Scope) → AddedType
 add_announced_type s = with_node s (nodes.announced (length s.names.announced))
 
 -- a name that is announced, with the type that stands for it
-abbrev pub with_announced : (word : TypeWord) (name : List ℕ) (added : AddedType) → Scope
+abbrev pub with_announced : (first_word : TypeWord) (name : List ℕ) (added_type : AddedType) → Scope
 with_announced word name p = record (p.0) {
   names = record ((p.0).names) {
     announced = (p.0).names.announced ++ (name, record { word = word; type = p.1 }) ∷ [];
@@ -319,12 +324,13 @@ with_announced word name p = record (p.0) {
 }
 
 -- an enum, struct or union with a new name, and with a new repository id if it has one
-abbrev pub with_named : (name : List ℕ) (id : Option (List ℕ)) (added : AddedType) → Scope
+abbrev pub with_named : (name : List ℕ) (repository_id : Option (List ℕ)) (added_type : AddedType) →
+    Scope
 with_named name id p = with_name (record (p.0) {
   table = with_type_counted (with_identified (p.0).table id p.1);
 }) name (Some p.1)
 
-abbrev pub with_raised : (name repository : List ℕ) (added : AddedType) → Scope
+abbrev pub with_raised : (name repository_id : List ℕ) (added_members : AddedType) → Scope
 with_raised name repository p =
     with_name (record (p.0) {
       table = with_exception (p.0).table
@@ -332,8 +338,8 @@ with_raised name repository p =
     }) name None
 
 -- an operation with this list of interfaces
-abbrev pub with_whole_operation : (name : List ℕ) (ids : List (List ℕ)) (request : ℕ)
-    (added : AddedType) → Scope
+abbrev pub with_whole_operation : (name : List ℕ) (interface_ids : List (List ℕ))
+    (request_struct : ℕ) (added_reply_struct : AddedType) → Scope
 with_whole_operation name ids request p =
     record (p.0) {
       table = with_operation_counted
@@ -341,32 +347,32 @@ with_whole_operation name ids request p =
     }
 
 -- a struct with these members
-abbrev pub add_struct_type : (added : Scope × List Part) → AddedType
+abbrev pub add_struct_type : (scope_and_members : Scope × List Part) → AddedType
 add_struct_type added = with_node added.0 (nodes.members added.1)
 
-abbrev pub add_union_type : (switch : ℕ) (cases : List UnionCase) (added : Scope × List Case) →
-    AddedType
+abbrev pub add_union_type : (switch_type : ℕ) (declared_cases : List UnionCase)
+    (scope_and_cases : Scope × List Case) → AddedType
 add_union_type switch cases added =
     with_node added.0 (nodes.union switch added.1 (default_from 0 cases))
 
 -- the cases of a union, after the type of its discriminator was added
-abbrev pub add_switched_union : (cases : List UnionCase) (added : AddedType) → AddedType
+abbrev pub add_switched_union : (cases : List UnionCase) (added_switch_type : AddedType) → AddedType
 add_switched_union cases p = add_union_type p.1 cases
     (add_cases p.0 (node_at (p.0).table p.1) cases)
 
 -- the two structs of an operation: first that of requests, then that of replies
-abbrev pub add_operation_structs : (name : List ℕ) (ids : List (List ℕ)) (returned : List Part)
-    (added : AddedParameters) → Scope
+abbrev pub add_operation_structs : (name : List ℕ) (interface_ids : List (List ℕ))
+    (returned_parts : List Part) (added_parameters : AddedParameters) → Scope
 add_operation_structs name ids returned x =
     with_whole_operation name ids (length (x.0).table.types)
     (add_struct_type ((add_struct_type (x.0, x.1)).0, returned ++ x.2))
 
-abbrev pub add_whole_operation : (name : List ℕ) (params : List Param) (ids : List (List ℕ))
-    (added : Scope × List Part) → Scope
+abbrev pub add_whole_operation : (name : List ℕ) (params : List Param)
+    (interface_ids : List (List ℕ)) (scope_and_returned_parts : Scope × List Part) → Scope
 add_whole_operation name params ids added = add_operation_structs name ids added.1
     (add_params added.0 params)
 
-abbrev pub with_key_of : (scope : Scope) (text id : List ℕ) → Scope
+abbrev pub with_key_of : (scope : Scope) (key_text interface_id : List ℕ) → Scope
 with_key_of s text id = record s {
   table = record (s.table) { interfaces = with_key s.table.interfaces text id };
 }
@@ -399,16 +405,18 @@ abbrev pub types_of_announced : (names : Names) → List (Option ℕ)
 types_of_announced names = map (λ e. named names e.0) names.announced
 
 -- the type that was declared for the announcement at an index
-abbrev pub declared_type_at : (types : List (Option ℕ)) (index : ℕ) → ℕ
+abbrev pub declared_type_at : (declared_by_announcement : List (Option ℕ)) (announcement_index : ℕ)
+    → ℕ
 declared_type_at types index = number_or_0 (option_flatten (slice_get types index))
 
 -- a recursive sequence gets the type that was declared for its elements
-abbrev pub resolved_node : (types : List (Option ℕ)) (node : Node) → Node
+abbrev pub resolved_node : (declared_by_announcement : List (Option ℕ)) (node : Node) → Node
 resolved_node types (nodes.recursive bound index) = nodes.recursive bound
     (declared_type_at types index)
 resolved_node types node = node
 
-abbrev pub with_resolved_types : (types : List (Option ℕ)) (t : Table) → Table
+abbrev pub with_resolved_types : (declared_by_announcement : List (Option ℕ)) (table : Table) →
+    Table
 with_resolved_types types t = record t { types = map (resolved_node types) t.types }
 
 -- the scope after each recursive sequence got its type

@@ -64,7 +64,7 @@ pub data Node : Type 0 where
   typecode : Option ℕ → ℕ → List Case → Node
 
 -- the node of a type
-abbrev pub node_in : (types : List Node) (number : ℕ) → Node
+abbrev pub node_in : (types : List Node) (type_number : ℕ) → Node
 node_in types number = slice_index_or types number (prim prims.Octet)
 
 abbrev pub shape_of : (node : Node) → Shape
@@ -90,25 +90,25 @@ abbrev pub case_part : (case : Option Case) → Option Part
 case_part None = None
 case_part (Some c) = Some c.part
 
-abbrev pub element_part : (element : ℕ) → Part
+abbrev pub element_part : (element_type : ℕ) → Part
 element_part element = record { name = []; type = element }
 
 -- a type, or octets instead of a type that needs more room
-abbrev pub narrowed_type : (wide : Option ℕ) (type : ℕ) → ℕ
+abbrev pub narrowed_type : (octets_from_type : Option ℕ) (type_number : ℕ) → ℕ
 narrowed_type None type = type
 narrowed_type (Some wide) type = cond (nat_lt type wide) type OCTETS
 
-abbrev pub narrow_part : (wide : Option ℕ) (part : Part) → Part
+abbrev pub narrow_part : (octets_from_type : Option ℕ) (part : Part) → Part
 narrow_part wide p = record { name = p.name; type = narrowed_type wide p.type }
 
 -- an any has its TypeCode at index 0, and the type with number n at index n + 1
-abbrev pub any_part : (code index : ℕ) → Part
+abbrev pub any_part : (typecode_type part_index : ℕ) → Part
 any_part code zero = element_part code
 any_part code (suc index) = element_part index
 
 -- the part at an index; an element and the value in an encapsulation are at each index and have no
 -- name
-abbrev pub part_at : (node : Node) (index : ℕ) → Option Part
+abbrev pub part_at : (node : Node) (part_index : ℕ) → Option Part
 part_at (members parts) index = slice_get parts index
 part_at (union switch cases otherwise) index = case_part (slice_get cases index)
 part_at (sequence bound element) index = Some (element_part element)
@@ -130,7 +130,7 @@ name_of None = []
 name_of (Some p) = p.name
 
 -- the name of an enum's number, or the word of a kind
-abbrev pub name_at : (node : Node) (number : ℕ) → Option (List ℕ)
+abbrev pub name_at : (node : Node) (value_number : ℕ) → Option (List ℕ)
 name_at (enumeration names) number = slice_get names number
 name_at (marked mark) number = marked_word mark number
 name_at node number = None
@@ -153,15 +153,15 @@ same_number (numbers.Char m) (numbers.Char n) = m == n
 same_number _ _ = false
 
 -- the first case with this number among its labels
-abbrev pub case_with : (number : Number) (cases : List Case) → Option ℕ
+abbrev pub case_with : (label : Number) (cases : List Case) → Option ℕ
 case_with n cases = position (λ c. list_any (λ label. same_number label n) c.labels) cases
 
-abbrev pub case_or : (index : Option ℕ) (otherwise : Selected) → Selected
+abbrev pub case_or : (case_index : Option ℕ) (otherwise : Selected) → Selected
 case_or (Some index) otherwise = selecteds.Case index
 case_or None otherwise = otherwise
 
 -- what the discriminator's value selects
-abbrev pub selected : (node : Node) (number : Number) → Selected
+abbrev pub selected : (node : Node) (discriminator_value : Number) → Selected
 selected (union switch cases otherwise) n = case_or (case_with n cases) otherwise
 selected (tagged special tag inner other) n =
     cond (same_number (numbers.Unsigned special) n) (selecteds.Case 1) (selecteds.Case 2)
@@ -172,7 +172,7 @@ selected node n = selecteds.Nothing
 
 -- the key of an operation: the number of its interface, from 1, or 0 if it has none; and then its
 -- name
-abbrev pub operation_key : (interface : ℕ) (name : List ℕ) → List ℕ
+abbrev pub operation_key : (interface_from_1_or_0 : ℕ) (name : List ℕ) → List ℕ
 operation_key interface name = interface / 256 ∷ interface % 256 ∷ name
 
 -- an operation of one interface or of none, with the structs of its requests and replies; an
@@ -212,23 +212,23 @@ pub record Table : Type 0 where
   pub forbids_wide : Bool
 
 -- the table as messages of 1.0 and 1.1 see it, or as others do
-abbrev pub seen : (forbids_wide : Bool) (table : Table) → Table
+abbrev pub seen : (forbids_wide_text : Bool) (table : Table) → Table
 seen forbids_wide t = record t { forbids_wide = forbids_wide }
 
 -- Whether anys and recursive sequences can't hold wide text in messages of a minor version. Only
 -- tables of version 3 have any.
-abbrev pub is_narrow : (minor : ℕ) (table : Table) → Bool
+abbrev pub is_narrow : (giop_minor : ℕ) (table : Table) → Bool
 is_narrow minor t = nat_lt minor 2 && t.version == 3
 
 -- the table as messages of a minor version see it
-abbrev pub in_version : (minor : ℕ) (table : Table) → Table
+abbrev pub in_version : (giop_minor : ℕ) (table : Table) → Table
 in_version minor t = seen (is_narrow minor t) t
 
-abbrev pub node_at : (table : Table) (number : ℕ) → Node
+abbrev pub node_at : (table : Table) (type_number : ℕ) → Node
 node_at t number = node_in t.types number
 
 -- the number of a part's type
-abbrev pub part_number : (table : Table) (id index : ℕ) → ℕ
+abbrev pub part_number : (table : Table) (type_number part_index : ℕ) → ℕ
 part_number t id index = type_of (part_at (node_at t id) index)
 
 abbrev pub op_id : (number : ℕ) → OpId
@@ -249,13 +249,15 @@ operation_number t name = operation_number_of_key t (operation_key 0 name)
 abbrev pub operation_in : (table : Table) (name : List ℕ) → Option OpId
 operation_in t name = option_map op_id (operation_number t name)
 
-abbrev pub or_plain_operation : (number : Option ℕ) (plain : Option OpId) → Option OpId
+abbrev pub or_plain_operation : (interface_operation : Option ℕ) (plain_operation : Option OpId) →
+    Option OpId
 or_plain_operation (Some number) plain = Some (op_id number)
 or_plain_operation None plain = plain
 
 -- the operation of a name in an interface: the one that has the interface in its list, or else the
 -- one without a list
-abbrev pub operation_for : (table : Table) (name : List ℕ) (i : Option InterfaceId) → Option OpId
+abbrev pub operation_for : (table : Table) (name : List ℕ) (interface : Option InterfaceId) →
+    Option OpId
 operation_for t name None = operation_in t name
 operation_for t name (Some i) =
     or_plain_operation (operation_number_of_key t (operation_key (i.0 + 1) name))
@@ -265,17 +267,18 @@ abbrev pub interface_id : (number : ℕ) → InterfaceId
 interface_id number = record { 0 = number }
 
 -- the interface with a repository id
-abbrev pub named_interface : (table : Table) (id : List ℕ) → Option InterfaceId
+abbrev pub named_interface : (table : Table) (repository_id : List ℕ) → Option InterfaceId
 named_interface t id = option_map interface_id (position (bytes_eq id) t.interfaces.names)
 
 -- the number of the operation of a name, in the interface with a repository id or in none; an
 -- interface that the table doesn't have counts as none
-abbrev pub asked_number : (table : Table) (name : List ℕ) (id : Option (List ℕ)) → Option ℕ
+abbrev pub asked_number : (table : Table) (operation_name : List ℕ)
+    (interface_repository_id : Option (List ℕ)) → Option ℕ
 asked_number t name id =
     option_map (λ o. o.0) (operation_for t name (option_and_then (named_interface t) id))
 
 -- the interface of an object key
-abbrev pub interface_in : (table : Table) (key : List ℕ) → Option InterfaceId
+abbrev pub interface_in : (table : Table) (object_key : List ℕ) → Option InterfaceId
 interface_in t key = option_map interface_id (of_key t.interfaces key)
 
 -- whether there is a KEY
@@ -283,23 +286,23 @@ abbrev pub has_keys : (table : Table) → Bool
 has_keys t = nat_lt 0 (length t.interfaces.keys)
 
 -- the repository id of an interface
-abbrev pub interface_name : (table : Table) (number : ℕ) → List ℕ
+abbrev pub interface_name : (table : Table) (interface_number : ℕ) → List ℕ
 interface_name t number = slice_index_or t.interfaces.names number []
 
 abbrev pub no_operation : Operation
 no_operation = record { key = []; request = 0; reply = 0 }
 
-abbrev pub operation_at : (table : Table) (number : ℕ) → Operation
+abbrev pub operation_at : (table : Table) (operation_index : ℕ) → Operation
 operation_at t number = slice_index_or t.operations number no_operation
 
 abbrev pub no_exception : Exception
 no_exception = record { repository = []; members = 0 }
 
-abbrev pub exception_members_at : (table : Table) (number : ℕ) → TypeId
+abbrev pub exception_members_at : (table : Table) (exception_index : ℕ) → TypeId
 exception_members_at t number = type_id (slice_index_or t.exceptions number no_exception).members
 
 -- the struct of the exception with a repository id
-abbrev pub exception_in : (table : Table) (repository : List ℕ) → Option TypeId
+abbrev pub exception_in : (table : Table) (repository_id : List ℕ) → Option TypeId
 exception_in t repository =
     option_map (exception_members_at t) (position
     (λ e. bytes_eq repository e.repository) t.exceptions)
@@ -307,11 +310,11 @@ exception_in t repository =
 abbrev pub no_identity : Identity
 no_identity = record { repository = []; type = 0 }
 
-abbrev pub identity_type_at : (table : Table) (number : ℕ) → TypeId
+abbrev pub identity_type_at : (table : Table) (identity_index : ℕ) → TypeId
 identity_type_at t number = type_id (slice_index_or t.identities number no_identity).type
 
 -- the enum, struct or union with a repository id
-abbrev pub identified_in : (table : Table) (repository : List ℕ) → Option TypeId
+abbrev pub identified_in : (table : Table) (repository_id : List ℕ) → Option TypeId
 identified_in t repository =
     option_map (identity_type_at t) (position (λ e. bytes_eq repository e.repository) t.identities)
 
@@ -331,32 +334,29 @@ abbrev pub with_operation_counted : (table : Table) → Table
 with_operation_counted t = record t { called = t.called + 1 }
 
 -- an operation in the interface with this number, from 1, or in no interface if it is 0
-abbrev pub with_keyed_operation : (interface : ℕ) (name : List ℕ) (request reply : ℕ)
-    (table : Table)
-    → Table
+abbrev pub with_keyed_operation : (interface_from_1_or_0 : ℕ) (name : List ℕ)
+    (request_struct reply_struct : ℕ) (table : Table) → Table
 with_keyed_operation interface name request reply t = with_operation t
     (record { key = operation_key interface name; request = request; reply = reply })
 
 -- an operation in one interface
-abbrev pub with_operation_in_interface : (name : List ℕ) (request reply : ℕ) (id : List ℕ)
-    (table : Table) → Table
+abbrev pub with_operation_in_interface : (name : List ℕ) (request_struct reply_struct : ℕ)
+    (interface_id : List ℕ) (table : Table) → Table
 with_operation_in_interface name request reply id t =
     with_keyed_operation (number_of t.interfaces id + 1) name request reply
     (record t { interfaces = with_interface t.interfaces id })
 
 -- an operation in each interface of a list
-abbrev pub with_operation_in_all : (name : List ℕ) (request reply : ℕ) (ids : List (List ℕ))
-    (table : Table) →
-    Table
+abbrev pub with_operation_in_all : (name : List ℕ) (request_struct reply_struct : ℕ)
+    (interface_ids : List (List ℕ)) (table : Table) → Table
 with_operation_in_all name request reply [] t = t
 with_operation_in_all name request reply (id ∷ ids) t =
     with_operation_in_all name request reply ids
     (with_operation_in_interface name request reply id t)
 
 -- an operation in each interface of its list, or in none if it has no list
-abbrev pub with_operation_in_list : (name : List ℕ) (request reply : ℕ) (ids : List (List ℕ))
-    (table : Table) →
-    Table
+abbrev pub with_operation_in_list : (name : List ℕ) (request_struct reply_struct : ℕ)
+    (interface_ids : List (List ℕ)) (table : Table) → Table
 with_operation_in_list name request reply [] t = with_keyed_operation 0 name request reply t
 with_operation_in_list name request reply (id ∷ ids) t = with_operation_in_all name request reply
     (id ∷ ids) t
@@ -384,9 +384,9 @@ TakesOctet node = Unit {0}
 
 -- a type that the type with number n may have as a part: it has a smaller number, and takes an
 -- octet
-pub record IsPartNumber (types : List Node) (n i : ℕ) : Type 0 where
-  pub below : i < n
-  pub takes : TakesOctet (node_in types i)
+pub record IsPartNumber (types : List Node) (whole_type part_type : ℕ) : Type 0 where
+  pub below : part_type < whole_type
+  pub takes : TakesOctet (node_in types part_type)
 
 abbrev pub IsScalarNode : (node : Node) → Type 0
 IsScalarNode (prim p) = Unit {0}
@@ -394,21 +394,22 @@ IsScalarNode (enumeration names) = Unit {0}
 IsScalarNode (marked mark) = Unit {0}
 IsScalarNode node = ⊥
 
-pub record IsDiscriminatorNumber (types : List Node) (n i : ℕ) : Type 0 where
-  pub below : i < n
-  pub scalar : IsScalarNode (node_in types i)
+pub record IsDiscriminatorNumber (types : List Node) (union_type discriminator_type : ℕ)
+    : Type 0 where
+  pub below : discriminator_type < union_type
+  pub scalar : IsScalarNode (node_in types discriminator_type)
 
-pub record IsPart (types : List Node) (n : ℕ) (p : Part) : Type 0 where
-  pub inner : IsPartNumber types n p.type
-  pub short : length p.name ≤ 64
+pub record IsPart (types : List Node) (whole_type : ℕ) (part : Part) : Type 0 where
+  pub inner : IsPartNumber types whole_type part.type
+  pub short : length part.name ≤ 64
 
 -- what is selected otherwise is one of the first `count` cases
-abbrev pub IsCaseBelow : (count : ℕ) (s : Selected) → Type 0
+abbrev pub IsCaseBelow : (case_count : ℕ) (selected_otherwise : Selected) → Type 0
 IsCaseBelow count (selecteds.Case i) = i < count
 IsCaseBelow count s = Unit {0}
 
 -- a node that the type with this number may have
-abbrev pub IsFormed : (types : List Node) (number : ℕ) (node : Node) → Type 0
+abbrev pub IsFormed : (types : List Node) (type_number : ℕ) (node : Node) → Type 0
 IsFormed types number (prim p) = Unit {0}
 IsFormed types number (enumeration names) =
     (length names ≤ 1024) × All (λ name. length name ≤ 64) names

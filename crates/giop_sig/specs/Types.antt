@@ -28,7 +28,7 @@ width (Enum count names) = 4
 width (Marked mark) = 4
 
 -- the value that a whole number is; none for a boolean above 1
-abbrev pub interpreted_by : (scalar : Scalar) (number : ℕ) → Option Number
+abbrev pub interpreted_by : (scalar : Scalar) (whole_number : ℕ) → Option Number
 interpreted_by (Plain p) number = interpreted_as p number
 interpreted_by (Enum count names) number = Some (numbers.Unsigned number)
 interpreted_by (Marked mark) number = Some (numbers.Unsigned number)
@@ -46,8 +46,8 @@ case_count Tag = 3
 
 -- The name of the discriminator, if it has one: a tag has that of a member, and a number with a
 -- mark is the `kind` of a TypeCode.
-abbrev pub discriminator_name : (choice : Choice) (scalar : Scalar) (names : ℕ → List ℕ) → Option
-    (List ℕ)
+abbrev pub discriminator_name : (choice : Choice) (discriminator_type : Scalar)
+    (member_names : ℕ → List ℕ) → Option (List ℕ)
 discriminator_name (Cases n) (Marked mark) names = Some (codes "kind")
 discriminator_name (Cases n) scalar names = None
 discriminator_name Tag scalar names = Some (names 0)
@@ -102,13 +102,13 @@ pub data OctetKind : Type 0 where
   WideChar : OctetKind
 
 -- how many octets the number before them takes
-abbrev pub size_width : (kind : OctetKind) → ℕ
+abbrev pub size_width : (octet_kind : OctetKind) → ℕ
 size_width (Raw bound) = 4
 size_width WideText = 4
 size_width WideChar = 1
 
 -- how many octets there may be
-abbrev pub bound_of : (kind : OctetKind) → Option ℕ
+abbrev pub bound_of : (octet_kind : OctetKind) → Option ℕ
 bound_of (Raw bound) = bound
 bound_of kind = None
 
@@ -137,12 +137,12 @@ pub data Ty : Type 0 where
 -- ---- the parts of a type
 
 -- the part that tells is at index 0, and what may come after it is at the indices from 1 on
-abbrev pub led_part : (type : Ty) (parts : ℕ → Ty) (index : ℕ) → Ty
+abbrev pub led_part : (telling_type : Ty) (later_types : ℕ → Ty) (part_index : ℕ) → Ty
 led_part F parts zero = F
 led_part F parts (suc index) = parts index
 
 -- the part at an index; an element is at each index
-abbrev pub part_of : (type : Ty) (index : ℕ) → Ty
+abbrev pub part_of : (type : Ty) (part_index : ℕ) → Ty
 part_of (Struct count names parts) index = parts index
 part_of (Union choice scalar select names cases) index = cases index
 part_of (Array count T) index = T
@@ -153,13 +153,13 @@ part_of (Led h F parts) index = led_part F parts index
 part_of T index = T
 
 -- the name of the part at an index; an element has none
-abbrev pub name_in : (type : Ty) (index : ℕ) → List ℕ
+abbrev pub name_in : (type : Ty) (part_index : ℕ) → List ℕ
 name_in (Struct count names parts) index = names index
 name_in (Union choice scalar select names cases) index = names index
 name_in T index = []
 
 -- the name of an enum's number, or the word of a kind
-abbrev pub enum_name_in : (type : Ty) (number : ℕ) → Option (List ℕ)
+abbrev pub enum_name_in : (type : Ty) (value_number : ℕ) → Option (List ℕ)
 enum_name_in (Single (Enum count names)) number =
     cond (nat_lt number count) (Some (names number)) None
 enum_name_in (Single (Marked mark)) number = marked_word mark number
@@ -171,7 +171,7 @@ switch_of (Union choice scalar select names cases) = Single scalar
 switch_of T = T
 
 -- what the whole number of a union's discriminator selects
-abbrev pub select_in : (type : Ty) (number : ℕ) → Selected
+abbrev pub select_in : (type : Ty) (discriminator_number : ℕ) → Selected
 select_in (Union choice scalar select names cases) number = select number
 select_in T number = Nothing
 
@@ -181,7 +181,7 @@ elements_fit (Recursive bound fits T) = fits
 elements_fit T = true
 
 -- the value that a discriminator's number is, in a type of one number
-abbrev pub interpreted_in : (type : Ty) (number : ℕ) → Option Number
+abbrev pub interpreted_in : (type : Ty) (whole_number : ℕ) → Option Number
 interpreted_in (Single scalar) number = interpreted_by scalar number
 interpreted_in T number = None
 
@@ -191,7 +191,7 @@ abbrev pub union_shape : (choice : Choice) → Shape
 union_shape (Cases n) = shapes.Union n
 union_shape Tag = shapes.Tagged
 
-abbrev pub octets_shape : (kind : OctetKind) → Shape
+abbrev pub octets_shape : (octet_kind : OctetKind) → Shape
 octets_shape (Raw bound) = shapes.Octets bound
 octets_shape WideText = shapes.WideText
 octets_shape WideChar = shapes.WideChar
@@ -235,14 +235,14 @@ HasShape T shapes.Tagged =
     × (T ≡ Union Tag scalar select names cases)
 
 -- a shape whose parts have names has a part at this index
-abbrev pub HasMember : (shape : Shape) (index : ℕ) → Type 0
+abbrev pub HasMember : (shape : Shape) (part_index : ℕ) → Type 0
 HasMember (shapes.Members count) index = index < count
 HasMember (shapes.Union count) index = index < count
 HasMember shapes.Tagged index = index < 3
 HasMember s index = ⊥
 
 -- a shape has a part at this index; elements are at each index
-abbrev pub HasIndex : (shape : Shape) (index : ℕ) → Type 0
+abbrev pub HasIndex : (shape : Shape) (part_index : ℕ) → Type 0
 HasIndex (shapes.Members count) index = index < count
 HasIndex (shapes.Union count) index = index < count
 HasIndex (shapes.Sequence bound) index = Unit {0}
@@ -255,7 +255,7 @@ HasIndex s index = ⊥
 
 -- The part at this index has a smaller number than the type. All parts have, apart from what may
 -- come after a part that tells it, and from the elements of a recursive sequence.
-abbrev pub HasSmallerPart : (shape : Shape) (index : ℕ) → Type 0
+abbrev pub HasSmallerPart : (shape : Shape) (part_index : ℕ) → Type 0
 HasSmallerPart shapes.Led index = index ≡ 0
 HasSmallerPart (shapes.Recursive bound) index = ⊥
 HasSmallerPart s index = HasIndex s index
@@ -268,7 +268,7 @@ IsUnion s = ⊥
 -- ---- depth
 
 -- the greatest of the first `count` numbers; 0 if there are none
-abbrev pub most : (count : ℕ) (number : ℕ → ℕ) → ℕ
+abbrev pub most : (count : ℕ) (number_at : ℕ → ℕ) → ℕ
 most zero number = 0
 most (suc count) number = max (most count number) (number count)
 

@@ -30,16 +30,17 @@ KeysRise labels = (i j : ℕ) (d : PlacedLabel) → i < j → j < length labels
     → sort_key_of (slice_index_or labels i d).number < sort_key_of
     (slice_index_or labels j d).number
 
-abbrev pub placed_label : (index : ℕ) (number : Number) → PlacedLabel
+abbrev pub placed_label : (case_index : ℕ) (label : Number) → PlacedLabel
 placed_label i n = record { number = n; index = i }
 
 -- each number of the list selects a case, and the case that a number selects is with it in the list
-pub record AreLabels (cases : List Case) (ls : List PlacedLabel) : Type 0 where
-  pub each : All (λ l. case_with l.number cases ≡ None → ⊥) ls
-  pub whole : (n : Number) (i : ℕ) → case_with n cases ≡ Some i → Contains ls (placed_label i n)
+pub record AreLabels (cases : List Case) (placed_labels : List PlacedLabel) : Type 0 where
+  pub each : All (λ l. case_with l.number cases ≡ None → ⊥) placed_labels
+  pub whole : (n : Number) (i : ℕ) → case_with n cases ≡ Some i
+      → Contains placed_labels (placed_label i n)
 
 -- the labels of the cases; their keys ascend if that is noted
-pub record AreLabelsRisingIf (cases : List Case) (ls : List PlacedLabel)
-    (rises : Bool) : Type 0 where
-  pub labels : AreLabels cases ls
-  pub order : rises ≡ true → KeysRise ls
+pub record AreLabelsRisingIf (cases : List Case) (placed_labels : List PlacedLabel)
+    (rise_is_noted : Bool) : Type 0 where
+  pub labels : AreLabels cases placed_labels
+  pub order : rise_is_noted ≡ true → KeysRise placed_labels

@@ -26,7 +26,7 @@ use Rattle.giop_sig.specs.Repeats.{in_steps}
 -- ---- a label
 
 -- the value of a word
-abbrev pub word_value : (version_3 : Bool) (text name rest : List ℕ) →
+abbrev pub word_value : (version_3 : Bool) (text_from_word label_word rest_after_word : List ℕ) →
     Result (Value × List ℕ) TokenError
 word_value third text name rest =
     if bytes_eq name (codes "true") then Ok (Truth true, rest) else
@@ -35,8 +35,8 @@ word_value third text name rest =
     (if nat_lt 64 (length name) then Err (refused kinds.Limit text) else Ok
     (Enumerator name, rest))))
 
-abbrev pub token_value : (version_3 : Bool) (text : List ℕ) (token : Option Token) (rest : List ℕ) →
-    Result (Value × List ℕ) TokenError
+abbrev pub token_value : (version_3 : Bool) (text_from_token : List ℕ) (token : Option Token)
+    (rest_after_token : List ℕ) → Result (Value × List ℕ) TokenError
 token_value third text None rest = Err (misplaced text)
 token_value third text (Some (word w)) rest = word_value third text w rest
 token_value third text (Some (number n)) rest = Ok (Plain n, rest)
@@ -62,12 +62,13 @@ same_mark _ _ = false
 abbrev pub LabelRead : Type 0
 LabelRead = LabelMark × List ℕ
 
-abbrev pub label_fitting : (text rest : List ℕ) (n : Option Number) → Result LabelRead TokenError
+abbrev pub label_fitting : (text_from_label rest_after_label : List ℕ)
+    (discriminator_value : Option Number) → Result LabelRead TokenError
 label_fitting text rest None = Err (refused kinds.Label text)
 label_fitting text rest (Some n) = Ok (Some n, rest)
 
 -- the value of the discriminator's type that the next value names
-unfoldable pub number_of_value : (version_3 : Bool) (node : Node) (text : List ℕ) →
+unfoldable pub number_of_value : (version_3 : Bool) (discriminator_node : Node) (text : List ℕ) →
     Result LabelRead TokenError
 number_of_value third node text = do
   v ← value_at third text
@@ -75,15 +76,15 @@ number_of_value third node text = do
 
 -- a label that was read, unless the union has it already or has no room for more labels; the
 -- refusal is at this text
-unfoldable pub unseen_label : (seen : List LabelMark) (label : LabelMark) (text : List ℕ)
-    → Result LabelMark TokenError
+unfoldable pub unseen_label : (seen_labels : List LabelMark) (label : LabelMark)
+    (text_from_label : List ℕ) → Result LabelMark TokenError
 unseen_label seen m text =
     if list_any (λ s. same_mark s m) seen then Err (refused kinds.Duplicate text)
     else (if nat_le 1024 (length seen) then Err (refused kinds.Limit text) else Ok m)
 
-abbrev pub label_after_case : (version_3 : Bool) (node : Node) (seen : List LabelMark)
-    (text : List ℕ)
-    (inner : Option (List ℕ)) → Result LabelRead TokenError
+abbrev pub label_after_case : (version_3 : Bool) (discriminator_node : Node)
+    (seen_labels : List LabelMark) (text : List ℕ) (text_after_case_word : Option (List ℕ)) →
+    Result LabelRead TokenError
 label_after_case third node seen text (Some inner) = do
   v ← number_of_value third node inner
   m ← unseen_label seen v.0 inner
@@ -96,8 +97,8 @@ label_after_case third node seen text None = do
   Ok (m, rest)
 
 -- a label with its colon
-unfoldable pub label_at : (version_3 : Bool) (node : Node) (seen : List LabelMark) (text : List ℕ) →
-    Result LabelRead TokenError
+unfoldable pub label_at : (version_3 : Bool) (discriminator_node : Node)
+    (seen_labels : List LabelMark) (text : List ℕ) → Result LabelRead TokenError
 label_at third node seen text = do
   value ← keyword_if (codes "case") text
   label_after_case third node seen text value
@@ -122,15 +123,15 @@ begins_label text = do
 
 -- If another label comes, it is read; else the labels of the case are over. The Bool says whether
 -- they are over.
-abbrev pub label_or_end : (version_3 : Bool) (node : Node) (labels : LabelsRead) (comes : Bool) →
-    Result (Bool × LabelsRead) TokenError
+abbrev pub label_or_end : (version_3 : Bool) (discriminator_node : Node) (labels : LabelsRead)
+    (label_comes : Bool) → Result (Bool × LabelsRead) TokenError
 label_or_end third node ls false = Ok (true, ls)
 label_or_end third node ls true = do
   l ← label_at third node ls.0 ls.3
   Ok (false, with_label ls l)
 
 -- one more label, if one comes
-unfoldable pub labels_step : (version_3 : Bool) (node : Node) (labels : LabelsRead) →
+unfoldable pub labels_step : (version_3 : Bool) (discriminator_node : Node) (labels : LabelsRead) →
     Result (Bool × LabelsRead) TokenError
 labels_step third node ls = do
   more ← begins_label ls.3
@@ -140,16 +141,15 @@ abbrev pub too_many_labels : (labels : LabelsRead) → TokenError
 too_many_labels ls = refused kinds.Limit ls.3
 
 -- the labels of a case after `seen`, which must begin with one
-abbrev pub labels_by : (version_3 : Bool) (node : Node) (seen : List LabelMark) (text : List ℕ)
-    (begins : Bool) → Result LabelsRead TokenError
+abbrev pub labels_by : (version_3 : Bool) (discriminator_node : Node) (seen_labels : List LabelMark)
+    (text : List ℕ) (label_comes : Bool) → Result LabelsRead TokenError
 labels_by third node seen text false = Err (misplaced text)
 labels_by third node seen text true =
     in_steps (labels_step third node) too_many_labels 1025 (seen, [], false, text)
 
 -- the labels of a case, at least one
-unfoldable pub labels_at : (version_3 : Bool) (node : Node) (seen : List LabelMark) (text : List ℕ)
-    →
-    Result LabelsRead TokenError
+unfoldable pub labels_at : (version_3 : Bool) (discriminator_node : Node)
+    (seen_labels : List LabelMark) (text : List ℕ) → Result LabelsRead TokenError
 labels_at third node seen text = do
   some ← begins_label text
   labels_by third node seen text some
@@ -167,13 +167,14 @@ abbrev pub no_cases : Cases
 no_cases = record { labels = []; names = []; cases = []; otherwise = selecteds.Nothing }
 
 -- the first case with the default
-abbrev pub first_default_case : (selected : Selected) (default : Bool) (index : ℕ) → Selected
+abbrev pub first_default_case : (selected_before : Selected) (has_default : Bool) (case_index : ℕ) →
+    Selected
 first_default_case selecteds.Nothing true index = selecteds.Case index
 first_default_case selecteds.Nothing false index = selecteds.Nothing
 first_default_case (selecteds.Case j) default index = selecteds.Case j
 first_default_case selecteds.Refused default index = selecteds.Refused
 
-abbrev pub with_case : (cases : Cases) (labels : LabelsRead) (part : Part) → Cases
+abbrev pub with_case : (cases_before : Cases) (labels : LabelsRead) (part : Part) → Cases
 with_case cs ls p = record {
   labels = ls.0;
   names = cs.names ++ p.name ∷ [];
@@ -185,7 +186,7 @@ abbrev pub CasesRead : Type 0
 CasesRead = Scope × Cases × List ℕ
 
 -- a case of a union whose discriminator has the type with this number
-unfoldable pub case_at : (switch : ℕ) (cases : CasesRead) → Result CasesRead TokenError
+unfoldable pub case_at : (switch_type : ℕ) (cases_before : CasesRead) → Result CasesRead TokenError
 case_at switch x = do
   ls ← labels_at (is_version_3 (x.0).names) (node_at (x.0).table switch) (x.1).labels x.2
   i ← item_at 256 (x.1).names x.0 ls.3
@@ -194,15 +195,16 @@ case_at switch x = do
 
 -- After the closing mark of a union the cases are over, and what follows the mark is left. Without
 -- it one more case is read. The Bool says whether they are over.
-abbrev pub case_or_end : (switch : ℕ) (cases : CasesRead) (after_mark : Option (List ℕ)) →
-    Result (Bool × CasesRead) TokenError
+abbrev pub case_or_end : (switch_type : ℕ) (cases_before : CasesRead)
+    (text_after_close_mark : Option (List ℕ)) → Result (Bool × CasesRead) TokenError
 case_or_end switch cases (Some after_mark) = Ok (true, (cases.0, cases.1, after_mark))
 case_or_end switch cases None = do
   c ← case_at switch cases
   Ok (false, c)
 
 -- the closing mark, or one more case
-unfoldable pub cases_step : (switch : ℕ) (cases : CasesRead) → Result (Bool × CasesRead) TokenError
+unfoldable pub cases_step : (switch_type : ℕ) (cases_before : CasesRead) →
+    Result (Bool × CasesRead) TokenError
 cases_step switch x = do
   closed ← mark_if marks.CloseBrace x.2
   case_or_end switch x closed
@@ -211,7 +213,8 @@ abbrev pub too_many_cases : (cases : CasesRead) → TokenError
 too_many_cases x = refused kinds.Limit x.2
 
 -- cases up to the closing mark, at least one
-unfoldable pub cases_at : (switch : ℕ) (scope : Scope) (text : List ℕ) → Result CasesRead TokenError
+unfoldable pub cases_at : (switch_type : ℕ) (scope : Scope) (text : List ℕ) →
+    Result CasesRead TokenError
 cases_at switch s text = do
   some ← non_empty_list_at text
   in_steps (cases_step switch) too_many_cases 257 (s, no_cases, some)
@@ -228,7 +231,7 @@ can_switch (nodes.enumeration names) = true
 can_switch node = false
 
 -- the node of a union whose cases were read
-abbrev pub union_node : (switch : ℕ) (cases : CasesRead) → Node
+abbrev pub union_node : (switch_type : ℕ) (cases : CasesRead) → Node
 union_node switch x = nodes.union switch (x.1).cases (x.1).otherwise
 
 -- the type of a discriminator
@@ -238,7 +241,7 @@ switch_at s text = do
   if can_switch (node_at (t.0).table t.1) then Ok t else Err (refused kinds.Label text)
 
 -- a union, after its name, which is at the front of `text`
-unfoldable pub union_after : (scope : Scope) (text name rest : List ℕ)
+unfoldable pub union_after : (scope : Scope) (text_from_name name rest_after_name : List ℕ)
     → Result DeclarationRead TokenError
 union_after s text name rest = do
   i ← identity_at s rest
@@ -251,7 +254,8 @@ union_after s text name rest = do
   type_end_at (octets_left_at_token text) name i.0 cs.0 (union_node t.1 cs) cs.2
 
 -- a union, or its announcement, after its first word
-unfoldable pub union_at : (scope : Scope) (text : List ℕ) → Result DeclarationRead TokenError
+unfoldable pub union_at : (scope : Scope) (text_after_union_word : List ℕ) →
+    Result DeclarationRead TokenError
 union_at s text = do
   n ← declared_name_at s (Some type_words.Union) s.table.declared text
   a ← announces_at s n.1

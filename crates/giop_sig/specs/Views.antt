@@ -48,16 +48,19 @@ abbrev pub nodes_view : (entries : List EntryWithDepth) → List Node
 nodes_view entries = map (λ p. node_view p.entry) entries
 
 -- a table as messages see it, and the entries of its types
-pub record IsTableWithEntries (t : Table) (ps : List EntryWithDepth) : Type 0 where
-  pub table : IsTable t
-  pub entries : nodes_view ps ≡ t.types
+pub record IsTableWithEntries (seen_table : Table) (type_entries : List EntryWithDepth)
+    : Type 0 where
+  pub table : IsTable seen_table
+  pub entries : nodes_view type_entries ≡ seen_table.types
 
 -- the depth of each entry's type, whether it has wide text, and the greatest depth, as they are
 -- kept
-pub record AreDepthsKept (ps : List EntryWithDepth) (deepest : ℕ) : Type 0 where
-  pub types : AreFormed (nodes_view ps)
-  pub each : (i : ℕ) → i < length ps
-      → slice_index_or (map (λ p. p.depth) ps) i 0 ≡ depth_in (nodes_view ps) i
-  pub wide : (i : ℕ) → i < length ps
-      → slice_index_or (map (λ p. p.wide) ps) i false ≡ has_wide_text (nodes_view ps) i
-  pub greatest : deepest ≡ depth_of (nodes_view ps)
+pub record AreDepthsKept (type_entries : List EntryWithDepth) (kept_greatest_depth : ℕ)
+    : Type 0 where
+  pub types : AreFormed (nodes_view type_entries)
+  pub each : (i : ℕ) → i < length type_entries
+      → slice_index_or (map (λ p. p.depth) type_entries) i 0 ≡ depth_in (nodes_view type_entries) i
+  pub wide : (i : ℕ) → i < length type_entries
+      → slice_index_or (map (λ p. p.wide) type_entries) i false
+      ≡ has_wide_text (nodes_view type_entries) i
+  pub greatest : kept_greatest_depth ≡ depth_of (nodes_view type_entries)

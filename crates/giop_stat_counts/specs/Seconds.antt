@@ -8,6 +8,6 @@ digits_after_first number = drop 1 (decimal number)
 
 -- a number of parts in decimal, if `parts` of them make one; `parts` is a power of ten, and as many
 -- digits follow the point as it has zeros
-abbrev pub fraction : (number parts_of_one : ℕ) → List ℕ
+abbrev pub fraction : (number_of_parts parts_of_one : ℕ) → List ℕ
 fraction number parts =
     decimal (number / parts) ++ (codes "." ++ digits_after_first (parts + number % parts))

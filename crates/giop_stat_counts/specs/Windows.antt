@@ -8,7 +8,7 @@ has_day time = nat_lt 10 (length time) && slice_index time 10 == 84
 
 -- the part of a time that is compared with another time: without its day if the other one has no
 -- day
-abbrev pub comparable_part : (time other : List ℕ) → List ℕ
+abbrev pub comparable_part : (time other_time : List ℕ) → List ℕ
 comparable_part time other = if has_day other then time else drop (min (length time) 11) time
 
 -- the order of texts, octet by octet
@@ -21,16 +21,16 @@ comes_before (x ∷ xs) (y ∷ ys) = if x == y then comes_before xs ys else nat_
 abbrev pub is_known_time : (time : List ℕ) → Bool
 is_known_time time = nat_lt 0 (length time)
 
-abbrev pub is_at_or_after : (time first : List ℕ) → Bool
+abbrev pub is_at_or_after : (time first_time : List ℕ) → Bool
 is_at_or_after time first =
     is_known_time time && not (comes_before (comparable_part time first) first)
 
 -- the first octets of a time, as many as another time has
-abbrev pub front_as_long_as : (time other : List ℕ) → List ℕ
+abbrev pub front_as_long_as : (time other_time : List ℕ) → List ℕ
 front_as_long_as time other = take (min (length time) (length other)) time
 
 -- whether a time isn't after the last one, or begins with it
-abbrev pub is_up_to : (time last : List ℕ) → Bool
+abbrev pub is_up_to : (time last_time_or_front : List ℕ) → Bool
 is_up_to time last =
     is_known_time time
     && not (comes_before last (front_as_long_as (comparable_part time last) last))

@@ -12,7 +12,8 @@ use Rattle.giop_stream.specs.Events.{events, joined_octets, phase_of}
 use Rattle.giop_stream.specs.HeaderEndsOfStream.{header_ends_from}
 
 -- a and b give the same answer for each message of the stream whose header has ended
-abbrev pub AnswersAgree : (C : Table) (most : ℕ) (stream : List ℕ) (a b : Answers) → Type 0
+abbrev pub AnswersAgree : (C : Table) (most_open_messages : ℕ) (stream : List ℕ) (a b : Answers) →
+    Type 0
 AnswersAgree C most stream a b =
     let es = events (rules_by C a most) stream in
     Each (λ e. (a e.subject.number ≡ b e.subject.number)
@@ -26,7 +27,8 @@ AnswersAlike a b (Exception_end number name) = Unit {0}
 
 -- a and b give the same answer for each message whose header ends in the stream before the message
 -- is over
-abbrev pub AgreeAtHeaders : (C : Table) (most : ℕ) (stream : List ℕ) (a b : Answers) → Type 0
+abbrev pub AgreeAtHeaders : (C : Table) (most_open_messages : ℕ) (stream : List ℕ) (a b : Answers) →
+    Type 0
 AgreeAtHeaders C most stream a b =
     Each (AnswersAlike a b) (header_ends_from (rules_by C a most) [] stream)
 
@@ -34,6 +36,7 @@ AgreeAtHeaders C most stream a b =
 -- an engine holds. If the header of a message ends in the octets, the message is answered as the
 -- correspondent answers at that time, after it was told of the headers before.
 abbrev pub AgreesOver : {St : Type 0} (answer : St → Answer) (notified : St → CallEvent → St)
-    (state : St) (engine : EngineView) (answers : Answers) (stream octets : List ℕ) → Type 0
+    (state : St) (engine : EngineView) (answers : Answers) (stream octets_after_stream : List ℕ) →
+    Type 0
 AgreesOver answer notified state e a stream octets =
     AgreesAtEnds answer notified e.table state a (header_ends_from (rules_with e a) stream octets)

@@ -52,7 +52,8 @@ counts_of C l = record {
 
 -- the place of the next octet: after a stream fault; in a header, if fewer than 12 octets are held;
 -- or in a payload
-abbrev pub place_of : (fault : Option StreamFault) (header : List ℕ) (payload_count : ℕ) → NextOctet
+abbrev pub place_of : (stop_fault : Option StreamFault) (header_octets_held : List ℕ)
+    (payload_octets_read : ℕ) → NextOctet
 place_of (Some fault) header payload_count = Stopped fault
 place_of None header payload_count =
     if nat_lt (length header) 12 then Header (record { items = header }) else Payload header
@@ -60,13 +61,14 @@ place_of None header payload_count =
 
 -- the index of the record of the message that the payload belongs to: an open message at this
 -- index, or the current one, whose record comes after those of the open ones
-abbrev pub owner_record_index : (index : Option ℕ) (message : Option Message) (many : ℕ) → Option ℕ
+abbrev pub owner_record_index : (open_index : Option ℕ) (current_message : Option Message)
+    (open_count : ℕ) → Option ℕ
 owner_record_index (Some index) message many = if nat_lt index many then Some index else None
 owner_record_index None None many = None
 owner_record_index None (Some m) many = Some many
 
 -- how many records the current message has: one, if there is such a message
-abbrev pub count_current : (message : Option Message) → ℕ
+abbrev pub count_current : (current_message : Option Message) → ℕ
 count_current None = 0
 count_current (Some m) = 1
 
@@ -87,27 +89,28 @@ fixed_of C l m = record {
 -- ---- the records
 
 -- of an open message with this key, and of one that is over
-abbrev pub open_kind : (id : Option ℕ) → RecordKind
+abbrev pub open_kind : (request_id : Option ℕ) → RecordKind
 open_kind None = record_kinds.OpenWithoutId
 open_kind (Some id) = record_kinds.Open id
 
-abbrev pub over_kind : (id : Option ℕ) → RecordKind
+abbrev pub over_kind : (request_id : Option ℕ) → RecordKind
 over_kind None = record_kinds.OverWithoutId
 over_kind (Some id) = record_kinds.Over id
 
 -- the kind of an open message's record, by whether the message is over, and its request id
-abbrev pub open_record_kind : (message : Option Message) (key : Option ℕ) → RecordKind
+abbrev pub open_record_kind : (message_unless_over : Option Message) (key : Option ℕ) → RecordKind
 open_record_kind None key = over_kind key
 open_record_kind (Some m) key = open_kind key
 
 -- the entry stores a message that isn't over; if the message fits the types of a catalogue, it has
 -- at most as many frames as the catalogue's depth
-pub record StoresMessage (m : Message) (e : StoredRecord) : Type 0 where
-  pub stored : Stored m e.message e.frames
-  pub shallow : (C : Table) → IsTable C → Fits C m → e.record_is.frames ≤ catalogue_depth C
+pub record StoresMessage (message : Message) (stored_record : StoredRecord) : Type 0 where
+  pub stored : Stored message stored_record.message stored_record.frames
+  pub shallow : (C : Table) → IsTable C → Fits C message → stored_record.record_is.frames ≤
+      catalogue_depth C
 
 -- what an entry stores of a message; zeros if the message is over
-abbrev pub StoresOrZeros : Option Message → StoredRecord → Type 0
+abbrev pub StoresOrZeros : (message : Option Message) (stored : StoredRecord) → Type 0
 StoresOrZeros None e = (e.message ≡ replicate MESSAGE_SIZE 0) × (e.frames ≡ [])
 StoresOrZeros (Some m) e = StoresMessage m e
 
@@ -129,11 +132,12 @@ pub record IsMessageRecord (record_kind : RecordKind) (number : ℕ) (header : L
   pub message : StoresMessage m stored
 
 -- the record of the current message, if it isn't open
-abbrev pub IsCurrent : Message → StoredRecord → Type 0
+abbrev pub IsCurrent : (message : Message) (stored : StoredRecord) → Type 0
 IsCurrent m e = IsMessageRecord record_kinds.Current m.number m.header m e
 
 -- the entries that are left: only that of the current message, or none if there is no such message
-abbrev pub AreLastEntries : (message : Option Message) (entries : List StoredRecord) → Type 0
+abbrev pub AreLastEntries : (current_message : Option Message) (entries : List StoredRecord) →
+    Type 0
 AreLastEntries None [] = Unit {0}
 AreLastEntries None (e ∷ es) = ⊥
 AreLastEntries (Some m) [] = ⊥
@@ -149,15 +153,17 @@ AreEntries (slot ∷ slots) current (e ∷ entries) = IsOpen slot e × AreEntrie
 
 -- ---- what a call writes after these octets: an entry that has this property, or several entries
 
-pub record IsPutOne (before after : List ℕ) (Is : StoredRecord → Type 0) : Type 0 where
+pub record IsPutOne (octets_before octets_after : List ℕ) (Is : StoredRecord → Type 0)
+    : Type 0 where
   pub entry : StoredRecord
   pub is : Is entry
-  pub put : after ≡ before ++ stored_record_octets entry
+  pub put : octets_after ≡ octets_before ++ stored_record_octets entry
 
-pub record IsPut (before after : List ℕ) (Are : List StoredRecord → Type 0) : Type 0 where
+pub record IsPut (octets_before octets_after : List ℕ) (Are : List StoredRecord → Type 0)
+    : Type 0 where
   pub entries : List StoredRecord
   pub are : Are entries
-  pub put : after ≡ before ++ flat_map stored_record_octets entries
+  pub put : octets_after ≡ octets_before ++ flat_map stored_record_octets entries
 
 abbrev pub AreOpen : (slots : List OpenEntry) (entries : List StoredRecord) → Type 0
 AreOpen slots entries = AreEntries slots None entries
@@ -193,26 +199,27 @@ pub record IsPutWhole (layout : Layout) (C : Table) (request_table : RequestTabl
   pub are : AreEntries fields.slots.slots.entries (current_of fields.slots.owner) entries
   pub put : octets ≡ checkpoint_octets layout C request_table fields entries
 
--- These octets are the checkpoint of an engine that holds the stream p, by this table and this
+-- These octets are the checkpoint of an engine that holds the stream, by this table and this
 -- list, and that allows this number of open messages. In layout 2 that number is 16; the other
 -- layouts store it.
-pub record Spells (octets : List ℕ) (C : Table) (l : RequestTable) (most : ℕ) (p : List ℕ) : Type 0
-  where
-    pub layout : Layout
-    pub is_read : reads_layout C.version layout ≡ true
-    pub memory : FramingView
-    pub entries : List StoredRecord
-    pub octets_are : octets ≡ checkpoint_octets layout C l memory entries
-    pub allows : OpenHasRange layout most
-    pub limit : memory.slots.slots.most ≡ most
-    pub entries_are : AreEntries memory.slots.slots.entries (current_of memory.slots.owner) entries
-    pub stream : AreOctets p
-    pub shows : Shows C (by_list l) memory (state_of (rules C l most) p)
-    pub ready : AreReady C (memory.totals.octets + 1) memory.slots
+pub record Spells (octets : List ℕ) (C : Table) (request_table : RequestTable)
+    (most_open_messages : ℕ) (held_stream : List ℕ) : Type 0 where
+  pub layout : Layout
+  pub is_read : reads_layout C.version layout ≡ true
+  pub memory : FramingView
+  pub entries : List StoredRecord
+  pub octets_are : octets ≡ checkpoint_octets layout C request_table memory entries
+  pub allows : OpenHasRange layout most_open_messages
+  pub limit : memory.slots.slots.most ≡ most_open_messages
+  pub entries_are : AreEntries memory.slots.slots.entries (current_of memory.slots.owner) entries
+  pub stream : AreOctets held_stream
+  pub shows : Shows C (by_list request_table) memory
+      (state_of (rules C request_table most_open_messages) held_stream)
+  pub ready : AreReady C (memory.totals.octets + 1) memory.slots
 
 -- the size of the greatest checkpoint, for this number of open messages and a catalogue of this
 -- depth
-unfoldable pub checkpoint_limit : (most depth : ℕ) → ℕ
+unfoldable pub checkpoint_limit : (most_open_messages depth_of_catalogue : ℕ) → ℕ
 checkpoint_limit most depth = FIXED_SIZE + (most + 1) * (RECORD_SIZE + FRAME_SIZE * depth)
 
 -- how many octets records have, with their frames
@@ -220,33 +227,33 @@ abbrev pub entries_size : (entries : List StoredRecord) → ℕ
 entries_size [] = 0
 entries_size (e ∷ es) = (RECORD_SIZE + FRAME_SIZE * e.record_is.frames) + entries_size es
 
--- What a save did: a checkpoint of p was written in the layout of the table's version, with the
--- fixed part and each record with its frames, and the result is its length. If a put failed, a
--- front of it was written.
-pub record Saves (result : Result ℕ Stop) (before after : OutLog)
-    (C : Table) (l : RequestTable) (most : ℕ) (stream : List ℕ) : Type 0 where
+-- What a save did: a checkpoint of the stream was written in the layout of the table's version,
+-- with the fixed part and each record with its frames, and the result is its length. If a put
+-- failed, a front of it was written.
+pub record Saves (result : Result ℕ Stop) (before after : OutLog) (C : Table)
+    (request_table : RequestTable) (most_open_messages : ℕ) (stream : List ℕ) : Type 0 where
   pub octets : List ℕ
-  pub spells : Spells octets C l most stream
+  pub spells : Spells octets C request_table most_open_messages stream
   pub layout : spells.layout ≡ layout_of C.version
   pub written : StopWrites result before after octets
   pub count : IfOk result (λ n. n ≡ length octets)
   pub size : length octets ≡ FIXED_SIZE + entries_size spells.entries
-  pub within : length octets ≤ checkpoint_limit most (catalogue_depth C)
+  pub within : length octets ≤ checkpoint_limit most_open_messages (catalogue_depth C)
 
 -- ---- octets that are refused
 
 -- The octets pass the checks up to the check of the records' lengths. After that, only a field of a
 -- record may be wrong, or the totals may be such that no stream has them.
-abbrev pub PassesLengths : (counts : Counts) (octets : List ℕ) → Type 0
+abbrev pub PassesLengths : (counts : Counts) (checkpoint : List ℕ) → Type 0
 PassesLengths c octets = (f : Fixed) × HasState c f octets × HasRecords f octets
 
 -- the fields in these octets allow this number of open messages
-abbrev pub Allows : (counts : Counts) (octets : List ℕ) (count : ℕ) → Type 0
+abbrev pub Allows : (counts : Counts) (checkpoint : List ℕ) (most_open_messages : ℕ) → Type 0
 Allows c octets count = (f : Fixed) × HasState c f octets × (f.most_open ≡ count)
 
 -- the first check that fails; or, after the check of the lengths, that there is no memory for the
 -- open messages
-abbrev pub IsRefused : (counts : Counts) (octets : List ℕ) (fault : LoadFault) → Type 0
+abbrev pub IsRefused : (counts : Counts) (checkpoint : List ℕ) (fault : LoadFault) → Type 0
 IsRefused c octets refusals.Magic = FailsUpToCounts c octets refusals.Magic
 IsRefused c octets refusals.Version = FailsUpToCounts c octets refusals.Version
 IsRefused c octets refusals.Catalogue = FailsUpToCounts c octets refusals.Catalogue

@@ -19,48 +19,48 @@ use Rattle.giop_stream.specs.SlotsRepresent.{SlotsRepresent}
 use Rattle.giop_stream.specs.PayloadOwner.{IsCurrent, IsBeforeOctet, octet_effect}
 
 -- The open message with this request id is at this index.
-pub record IsOpenAt (s : Slots) (found : Continuation) : Type 0 where
-  pub within : found.index < length s.slots.entries
-  pub here : position_from (λ slot. is_id found.id slot.key) 0 s.slots.entries ≡ Some found.index
+pub record IsOpenAt (slots : Slots) (found : Continuation) : Type 0 where
+  pub within : found.index < length slots.slots.entries
+  pub here : position_from (λ slot. is_id found.id slot.key) 0 slots.slots.entries ≡ Some
+      found.index
 
 -- These five octets, after the first eleven of a header, are the header's last one and the request
 -- id of a Fragment that continues this open message.
-pub record IsContinuation (front octets : List ℕ) (slots : Slots)
+pub record IsContinuation (eleven_header_octets five_octets_after : List ℕ) (slots : Slots)
     (found : Continuation) : Type 0 where
   pub last : ℕ
   pub id : List ℕ
-  pub parts : octets ≡ last ∷ id
-  pub eleven : length front ≡ 11
+  pub parts : five_octets_after ≡ last ∷ id
+  pub eleven : length eleven_header_octets ≡ 11
   pub four : length id ≡ 4
-  pub fragment : is_fragment_1_2 (front ++ last ∷ []) ≡ true
-  pub sized : 4 ≤ size (front ++ last ∷ [])
-  pub spells : found.id ≡ num (order (front ++ last ∷ [])) id
+  pub fragment : is_fragment_1_2 (eleven_header_octets ++ last ∷ []) ≡ true
+  pub sized : 4 ≤ size (eleven_header_octets ++ last ∷ [])
+  pub spells : found.id ≡ num (order (eleven_header_octets ++ last ∷ [])) id
   pub open_at : IsOpenAt slots found
 
 -- The slots represent what is tracked when the request id of a Fragment is complete, and it makes
 -- no difference which message owns the octets until then.
-pub record IsContinuing (C : Table) (l : Answers) (s : Slots) (c : Tracked)
-    (owner : Option MessageKey) (message : CutMessage) (now : Current) : Type 0 where
-  pub keeps : SlotsRepresent C l s c owner
-  pub rising : NumbersRise c.still_open
+pub record IsContinuing (C : Table) (answers : Answers) (slots : Slots) (tracked : Tracked)
+    (owner_until_now : Option MessageKey) (message : CutMessage) (now : Current) : Type 0 where
+  pub keeps : SlotsRepresent C answers slots tracked owner_until_now
+  pub rising : NumbersRise tracked.still_open
   pub current : IsCurrent now message
-  pub alive : (kept : Kept) × (c.known message.number ≡ Some kept)
+  pub alive : (kept : Kept) × (tracked.known message.number ≡ Some kept)
 
--- The slots represent what is tracked before the last octet x of a Fragment's request id, without
+-- The slots represent what is tracked before the last octet of a Fragment's request id, without
 -- the Fragment itself.
-pub record IsBeforeContinuation (C : Table) (l : Answers) (s : Slots) (c : Tracked) (m : CutMessage)
-    (now : Current) (octet : ℕ) (found : Continuation) : Type 0 where
-  pub keeps : SlotsRepresent C l s c None
-  pub before : IsBeforeOctet c m now octet
-  pub three : length m.payload ≡ 3
-  pub fragment : is_fragment_1_2 m.header ≡ true
-  pub spells : id (with_octet m octet) ≡ found.id
-  pub open_at : IsOpenAt s found
+pub record IsBeforeContinuation (C : Table) (answers : Answers) (slots : Slots) (tracked : Tracked)
+    (message : CutMessage) (now : Current) (last_id_octet : ℕ) (found : Continuation) : Type 0 where
+  pub keeps : SlotsRepresent C answers slots tracked None
+  pub before : IsBeforeOctet tracked message now last_id_octet
+  pub three : length message.payload ≡ 3
+  pub fragment : is_fragment_1_2 message.header ≡ true
+  pub spells : id (with_octet message last_id_octet) ≡ found.id
+  pub open_at : IsOpenAt slots found
 
 -- what the last octet of a Fragment's header and the octets of its request id do: the message
 -- starts, and the last octet does what its events do
-abbrev pub continuation_effect : (C : Table) (answers : Answers) (most : ℕ) (tracked : Tracked)
-    (message : CutMessage)
-    (octet : ℕ) → Effect
+abbrev pub continuation_effect : (C : Table) (answers : Answers) (most_open_messages : ℕ)
+    (tracked : Tracked) (message : CutMessage) (last_id_octet : ℕ) → Effect
 continuation_effect C l most c m octet =
     line_effect (start_line_of (with_payload m [])) (octet_effect C l most c (with_octet m octet))

@@ -15,10 +15,10 @@ use Rattle.giop_stream.specs.SlotsRepresent.{RepresentsMessage, SlotsRepresent}
 
 -- The call writes these lines, and its result counts the faults among them. If it doesn't fail,
 -- `leaves` holds after it.
-pub record WritesAndLeaves {A E : Type 0} (count : A → ℕ) (result : Result A E)
-    (before after : OutLog) (ls : List StreamLine) (leaves : Type 0) : Type 0 where
-  pub text : Writes result before after (lines_text ls)
-  pub faults : IfOk result (λ x. fault_count ls ≡ count x)
+pub record WritesAndLeaves {A E : Type 0} (fault_count_in_result : A → ℕ) (result : Result A E)
+    (before after : OutLog) (lines : List StreamLine) (leaves : Type 0) : Type 0 where
+  pub text : Writes result before after (lines_text lines)
+  pub faults : IfOk result (λ x. fault_count lines ≡ fault_count_in_result x)
   pub kept : OnOk result leaves
 
 -- how many faults the result of a call counts, if it tells whether there is a fault
@@ -35,25 +35,23 @@ count_none value = 0
 
 -- The slots represent what the effect leaves tracked, and the next octets of the payload belong to
 -- this message.
-abbrev pub DoesEffect : {A E : Type 0} (C : Table) (answers : Answers) (count : A → ℕ)
-    (result : Result A E) (before after : OutLog) (slots : Slots) (effect : Effect)
-    (owner_of_next : Option MessageKey) → Type 0
+abbrev pub DoesEffect : {A E : Type 0} (C : Table) (answers : Answers)
+    (fault_count_in_result : A → ℕ) (result : Result A E) (before after : OutLog) (slots : Slots)
+    (effect : Effect) (owner_of_next : Option MessageKey) → Type 0
 DoesEffect C l count result before after slots effect owner_of_next =
     WritesAndLeaves count result before after effect.lines
     (SlotsRepresent C l slots effect.tracked owner_of_next)
 
 -- The code's message with this number and header represents what this part of an effect leaves.
-abbrev pub DoesMessageEffect : {A E : Type 0} (C : Table) (answers : Answers) (count : A →
-    ℕ) (result : Result A E)
-    (before after : OutLog) (message : Option CodeMessage) (key : MessageKey)
-    (part : MessageEffect) →
-    Type 0
+abbrev pub DoesMessageEffect : {A E : Type 0} (C : Table) (answers : Answers)
+    (fault_count_in_result : A → ℕ) (result : Result A E) (before after : OutLog)
+    (message : Option CodeMessage) (key : MessageKey) (effect_part : MessageEffect) → Type 0
 DoesMessageEffect C l count result before after message w part =
     WritesAndLeaves count result before after part.lines
     (RepresentsMessage C l message w part.kept)
 
 -- The call writes only lines: nothing is kept.
-abbrev pub WritesLines : {A E : Type 0} (count : A → ℕ) (result : Result A E)
+abbrev pub WritesLines : {A E : Type 0} (fault_count_in_result : A → ℕ) (result : Result A E)
     (before after : OutLog) (lines : List StreamLine) → Type 0
 WritesLines count result before after lines =
     WritesAndLeaves count result before after lines (Unit {0})

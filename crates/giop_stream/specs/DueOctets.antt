@@ -8,12 +8,12 @@ use Rattle.giop_stream.specs.HeaderEndsOfStream.{header_ends_from}
 
 -- A message begins in these octets, which come after the stream: its header of 12 octets becomes
 -- complete in them (GIOP Message Formats, GIOP Message Header).
-abbrev pub begins_in : (stream octets : List ℕ) → Bool
+abbrev pub begins_in : (stream octets_after_stream : List ℕ) → Bool
 begins_in stream octets =
     nat_lt (length (messages (cut stream))) (length (messages (cut (stream ++ octets))))
 
 -- the number of the last message that begins in these octets, from 1
-abbrev pub begun_in : (stream octets : List ℕ) → Option ℕ
+abbrev pub begun_in : (stream octets_after_stream : List ℕ) → Option ℕ
 begun_in stream octets =
     if begins_in stream octets then Some (length (messages (cut (stream ++ octets)))) else
     None
@@ -22,7 +22,7 @@ module _ {St : Type 0} (due : St → Bool) (notified : St → CallEvent → St) 
     (C : Table) (st : St) (R : Rules) (p : List ℕ) where
   -- Whether a correspondent is due after these octets of the stream: by what it is told of them,
   -- or, if it awaits messages, because a message begins in them.
-  abbrev pub is_due_after : (octets : List ℕ) → Bool
+  abbrev pub is_due_after : (octets_after_stream : List ℕ) → Bool
   is_due_after octets =
       due (after_ends notified C st (header_ends_from R p octets))
       || (awaits_messages && begins_in p octets)

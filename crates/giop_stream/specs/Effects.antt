@@ -16,7 +16,7 @@ pub record Effect : Type 0 where
   pub lines : List StreamLine
 
 -- what is kept of a message after an event of it
-abbrev pub kept_after_event : (what : EventKind) (kept : Kept) → Kept
+abbrev pub kept_after_event : (event_kind : EventKind) (kept : Kept) → Kept
 kept_after_event what kept = record {
   octets = kept.octets ++ octets_of_event what;
   phase = phase_after_event kept.octets kept.phase what;
@@ -67,7 +67,7 @@ IsBegun known m = 0 < length m.payload → length m.payload ≤ 4 → (kept : Ke
 -- ---- An octet of a stream.
 
 -- the current message, with its next octet
-abbrev pub with_octet : (message : CutMessage) (octet : ℕ) → CutMessage
+abbrev pub with_octet : (message : CutMessage) (next_octet : ℕ) → CutMessage
 with_octet m octet = with_payload m (m.payload ++ octet ∷ [])
 
 -- ---- One message's part of an event: its lines, and what is kept of the message after the event,
@@ -96,7 +96,7 @@ abbrev pub no_message_effect : (kept : Option Kept) → MessageEffect
 no_message_effect o = record { kept = o; lines = [] }
 
 -- one part, and then what more events make of what it keeps
-abbrev pub then_message_effect : (one more : MessageEffect) → MessageEffect
+abbrev pub then_message_effect : (earlier_effect later_effect : MessageEffect) → MessageEffect
 then_message_effect one more = record { kept = more.kept; lines = one.lines ++ more.lines }
 
 -- ---- What an event does to the slots.
@@ -125,8 +125,8 @@ closes_message Closes = true
 
 -- ---- The effects of one event, of no event, and of more events after some.
 
-abbrev pub one_effect : (R : MessageReader) (tracked : Tracked) (place : ℕ) (subject : MessageKey)
-    (what : EventKind) → Effect
+abbrev pub one_effect : (R : MessageReader) (tracked : Tracked) (place_in_stream_from_1 : ℕ)
+    (subject : MessageKey) (event_kind : EventKind) → Effect
 one_effect R c at subject what =
     let e : Event = record { place = at; subject = subject; what = what } in
     record { tracked = tracked_after_event R c e; lines = lines_of R e (c.known subject.number) }
@@ -134,17 +134,17 @@ one_effect R c at subject what =
 abbrev pub no_effect : (tracked : Tracked) → Effect
 no_effect c = record { tracked = c; lines = [] }
 
-abbrev pub then_effect : (one more : Effect) → Effect
+abbrev pub then_effect : (earlier_effect later_effect : Effect) → Effect
 then_effect one more = record { tracked = more.tracked; lines = one.lines ++ more.lines }
 
 -- an event of a message at a place
-abbrev pub event : (place : ℕ) (subject : MessageKey) (what : EventKind) → Event
+abbrev pub event : (place_in_stream_from_1 : ℕ) (subject : MessageKey) (event_kind : EventKind) →
+    Event
 event at subject what = record { place = at; subject = subject; what = what }
 
 -- the effect of an event on what is tracked, and its lines; none if the octets belong to no message
-abbrev pub effect_to : (C : Table) (answers : Answers) (place : ℕ) (tracked : Tracked)
-    (owner : Option MessageKey)
-    (what : EventKind) → Effect
+abbrev pub effect_to : (C : Table) (answers : Answers) (place_in_stream_from_1 : ℕ)
+    (tracked : Tracked) (owner : Option MessageKey) (event_kind : EventKind) → Effect
 effect_to C l at c None what = no_effect c
 effect_to C l at c (Some w) what = one_effect (message_reader C l) c at w what
 

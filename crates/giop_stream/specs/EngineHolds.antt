@@ -30,15 +30,15 @@ abbrev pub rules_of : (engine : EngineView) → Rules
 rules_of e = rules e.table e.request_table e.most
 
 -- what these octets add to the text of a stream
-unfoldable pub added : (R : Rules) (stream more : List ℕ) → List ℕ
+unfoldable pub added : (R : Rules) (stream octets_after_stream : List ℕ) → List ℕ
 added R stream more = drop (length (text R stream)) (text R (stream ++ more))
 
--- The engine holds the stream p, if the ids of each message answer these operations: its fields
--- show the state of p.
-pub record HoldsBy (engine : EngineView) (answers : Answers) (p : List ℕ) : Type 0 where
+-- The engine holds the stream, if the ids of each message answer these operations: its fields show
+-- the state of the stream.
+pub record HoldsBy (engine : EngineView) (answers : Answers) (stream : List ℕ) : Type 0 where
   pub sound : engine.failed ≡ false
-  pub octets : AreOctets p
-  pub shows : Shows engine.table answers engine.stream (state_of (rules_with engine answers) p)
+  pub octets : AreOctets stream
+  pub shows : Shows engine.table answers engine.stream (state_of (rules_with engine answers) stream)
 
 -- The engine holds the stream, if its request table gives the operations.
 abbrev pub Holds : (engine : EngineView) (stream : List ℕ) → Type 0
@@ -51,13 +51,14 @@ status_of (Some fault) = Stopped fault
 -- what was written: all that was due; or a front of it, if a put failed; or nothing, if the engine
 -- had failed before
 abbrev pub StopWrites : {A : Type 0} (result : Result A Stop) (before after : OutLog)
-    (due : List ℕ) → Type 0
+    (octets_due : List ℕ) → Type 0
 StopWrites (Ok x) before after due = Wrote before after due
 StopWrites (Err (stop.Out f)) before after due = WroteFront before after due
 StopWrites (Err stop.Failed) before after due = after ≡ before
 
 -- how a call leaves the engine: whether it has failed, and with which totals
-abbrev pub Leaves : {A : Type 0} (result : Result A Stop) (before after : EngineView) → Type 0
+abbrev pub Leaves : {A : Type 0} (result : Result A Stop)
+    (engine_before engine_after : EngineView) → Type 0
 Leaves (Ok x) before after = (before.failed ≡ false) × (after.failed ≡ false)
 Leaves (Err (stop.Out f)) before after =
     (before.failed ≡ false) × (after.failed ≡ true) × (after.stream.totals ≡ before.stream.totals)

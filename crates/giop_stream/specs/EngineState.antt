@@ -23,7 +23,7 @@ pub record State : Type 0 where
 -- ---- The owner of the next octets.
 
 -- the message that an open joined message begins with
-abbrev pub opener_key : (other : Option Open) → Option MessageKey
+abbrev pub opener_key : (open_message : Option Open) → Option MessageKey
 opener_key None = None
 opener_key (Some o) = Some o.opener
 
@@ -32,18 +32,19 @@ opener_key (Some o) = Some o.opener
 unfoldable pub owner_of_next : (before : OpenState) (message : CutMessage) → Option MessageKey
 owner_of_next b m = if is_named_fragment m then opener_key (opener_of b m) else Some (message_key m)
 
-abbrev pub owner_of_next_in : (before : OpenState) (current : Option CutMessage) → Option MessageKey
+abbrev pub owner_of_next_in : (before : OpenState) (current_message : Option CutMessage) →
+    Option MessageKey
 owner_of_next_in b None = None
 owner_of_next_in b (Some m) = owner_of_next b m
 
 -- ---- Of a stream.
 
-abbrev pub payload_octets_left : (current : Option CutMessage) → ℕ
+abbrev pub payload_octets_left : (current_message : Option CutMessage) → ℕ
 payload_octets_left None = 0
 payload_octets_left (Some m) = size m.header - length m.payload
 
-abbrev pub none_if_stopped : {A : Type 0} (is_allowed : Option (ℕ × StreamFault)) (none some : A) →
-    A
+abbrev pub none_if_stopped : {A : Type 0} (stop_place_and_fault : Option (ℕ × StreamFault))
+    (value_if_stopped value_if_not : A) → A
 none_if_stopped (Some is_allowed) none some = none
 none_if_stopped None none some = some
 

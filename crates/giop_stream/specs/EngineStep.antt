@@ -33,7 +33,7 @@ fresh_state R = record {
   owner = None;
 }
 
-unfoldable pub kind_of_octet : (state : State) (octet : ℕ) → OctetKind
+unfoldable pub kind_of_octet : (state : State) (next_octet : ℕ) → OctetKind
 kind_of_octet s octet =
     octet_in s.stop s.held s.totals.messages s.totals.octets (size s.held - s.left) octet
 
@@ -41,7 +41,7 @@ kind_of_octet s octet =
 
 -- the key of an octet's message, if the octet is the one with which the message has its place among
 -- the open ones, and this is kept of the octets before it
-abbrev pub request_id_at : (octet : MessageOctet) (kept : Option Kept) → ℕ
+abbrev pub request_id_at : (octet : MessageOctet) (kept_before : Option Kept) → ℕ
 request_id_at now None = 0
 request_id_at now (Some kept) = num (order now.subject.header) (kept.octets ++ now.octet ∷ [])
 
@@ -56,8 +56,8 @@ open_numbered still_open (Some w) = find (λ o. o.opener.number == w.number) sti
 
 -- at that octet: the open message with that key; after it: the open message that the octet belongs
 -- to
-unfoldable pub open_message_for : (asks : RequestIds) (state : State) (octet : MessageOctet) →
-    Option Open
+unfoldable pub open_message_for : (request_id_by_octets : RequestIds) (state : State)
+    (octet : MessageOctet) → Option Open
 open_message_for asks s now = if now.payload_count == lookup_offset now.subject.header
     then open_under (before_in asks s.tracked) (key_of s now)
     else open_numbered s.tracked.still_open s.owner
@@ -73,14 +73,14 @@ header_held_after now = if nat_lt now.payload_count (size now.subject.header) th
     now.subject.header else []
 
 -- the owner of the next octets; `other` is the open message that a Fragment continues
-abbrev pub owner_for : (octet : MessageOctet) (other : Option Open) → Option MessageKey
+abbrev pub owner_for : (octet : MessageOctet) (continued_message : Option Open) → Option MessageKey
 owner_for now other = if is_any_fragment now.subject.header
     && nat_le (lookup_offset now.subject.header) now.payload_count then
     opener_key other else Some now.subject
 
 -- the step of an octet of a message, by what its events do
-unfoldable pub message_octet_step : (asks : RequestIds) (state : State) (octet : MessageOctet)
-    (effect : Effect) → Step
+unfoldable pub message_octet_step : (request_id_by_octets : RequestIds) (state : State)
+    (octet : MessageOctet) (effect : Effect) → Step
 message_octet_step asks s now effect =
     let goes_on = nat_lt now.payload_count (size now.subject.header) in
     record {
@@ -120,7 +120,7 @@ stream_fault_step s fault = record {
 }
 
 -- the step of an octet that adds to a header, after which these octets of the header are held
-unfoldable pub header_octet_step : (state : State) (front : List ℕ) → Step
+unfoldable pub header_octet_step : (state : State) (header_octets_held : List ℕ) → Step
 header_octet_step s front = record {
   state = record s {
     totals =
@@ -130,14 +130,14 @@ header_octet_step s front = record {
   lines = [];
 }
 
-abbrev pub step_by : (R : Rules) (state : State) (octet : OctetKind) → Step
+abbrev pub step_by : (R : Rules) (state : State) (octet_kind : OctetKind) → Step
 step_by R s AfterStop = record { state = s; lines = [] }
 step_by R s (Ends fault) = stream_fault_step s fault
 step_by R s (Held front) = header_octet_step s front
 step_by R s (Of now) =
     message_octet_step R.asks s now (effects R.reading s.tracked (events_at R s now))
 
-unfoldable pub step : (R : Rules) (state : State) (octet : ℕ) → Step
+unfoldable pub step : (R : Rules) (state : State) (next_octet : ℕ) → Step
 step R s octet = step_by R s (kind_of_octet s octet)
 
 unfoldable pub lines_of_run : (R : Rules) (state : State) (octets : List ℕ) → List StreamLine

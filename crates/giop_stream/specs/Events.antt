@@ -78,12 +78,12 @@ last_octet_of m = record {
 -- `key` is the message's key, and `other` is the message that was open under that key.
 
 -- an event of the message itself
-unfoldable pub own_event : (octet : MessageOctet) (what : EventKind) → List Event
+unfoldable pub own_event : (octet : MessageOctet) (event_kind : EventKind) → List Event
 own_event now what = record { place = now.place; subject = now.subject; what = what } ∷ []
 
 -- an event of the open message that has the same key
-unfoldable pub event_of_open : (octet : MessageOctet) (other : Option Open) (what : EventKind) →
-    List Event
+unfoldable pub event_of_open : (octet : MessageOctet) (open_message : Option Open)
+    (event_kind : EventKind) → List Event
 event_of_open now None what = []
 event_of_open now (Some o) what = record { place = now.place; subject = o.opener; what = what } ∷ []
 
@@ -99,7 +99,7 @@ header_events now = own_event now Begins ++ fault_events now (header_fault now.s
 -- ---- An octet of the payload. After a Fragment was looked for among the open messages, its octets
 -- belong to the message that it continues.
 
-unfoldable pub payload_events : (octet : MessageOctet) (other : Option Open) → List Event
+unfoldable pub payload_events : (octet : MessageOctet) (open_under_key : Option Open) → List Event
 payload_events now other =
     if is_any_fragment now.subject.header
     && nat_lt (lookup_offset now.subject.header) now.payload_count
@@ -110,15 +110,15 @@ payload_events now other =
 
 -- why a message can't be opened under this key, if this number of messages may be open at once
 
-abbrev pub already_open_fault : (id : Option ℕ) → FramingFault
+abbrev pub already_open_fault : (request_id : Option ℕ) → FramingFault
 already_open_fault (Some id) = IdOpen
 already_open_fault None = OldFragment
 
-abbrev pub fault_if_full : (most : ℕ) (still_open : List Open) → Option FramingFault
+abbrev pub fault_if_full : (most_open_messages : ℕ) (still_open : List Open) → Option FramingFault
 fault_if_full most still_open = if nat_le most (length still_open) then Some TooManyOpen else None
 
-abbrev pub opening_fault : (most : ℕ) (before : OpenState) (key : Option ℕ) (other : Option Open) →
-    Option FramingFault
+abbrev pub opening_fault : (most_open_messages : ℕ) (before : OpenState) (key : Option ℕ)
+    (open_under_key : Option Open) → Option FramingFault
 opening_fault most b key (Some other) = Some (already_open_fault key)
 opening_fault most b key None =
     if is_none key && b.mixed then Some OldFragment else fault_if_full most b.still_open
@@ -130,9 +130,8 @@ open_events_unless now key (Some fault) = own_event now (Faults fault)
 
 -- the events of a message that Fragments continue
 
-abbrev pub opening_events : (most : ℕ) (before : OpenState) (now : MessageOctet) (key : Option ℕ)
-    (other : Option Open) →
-    List Event
+abbrev pub opening_events : (most_open_messages : ℕ) (before : OpenState) (now : MessageOctet)
+    (key : Option ℕ) (open_under_key : Option Open) → List Event
 opening_events most b now key other = open_events_unless now key (opening_fault most b key other)
 
 -- the events of a Fragment
@@ -156,7 +155,7 @@ abbrev pub no_open_fault : (before : OpenState) (key : Option ℕ) → FramingFa
 no_open_fault b key = if is_none key && b.mixed then OldFragment else NoOpen
 
 abbrev pub fragment_events : (before : OpenState) (now : MessageOctet) (key : Option ℕ)
-    (other : Option Open) → List Event
+    (open_under_key : Option Open) → List Event
 fragment_events b now key None = own_event now (Faults (no_open_fault b key))
 fragment_events b now key (Some o) =
     own_event now (Continues o.opener.number) ++ (seam_events now o ++ order_fault_events now o)
@@ -173,22 +172,22 @@ is_same_id None other = false
 unfoldable pub open_message_1_1 : (before : OpenState) → Option Open
 open_message_1_1 b = if b.mixed then None else find (λ o. is_none o.key) b.still_open
 
-abbrev pub open_to_cancel : (before : OpenState) (key : Option ℕ) (other : Option Open) →
-    Option Open
+abbrev pub open_to_cancel : (before : OpenState) (key_of_cancel_request : Option ℕ)
+    (open_under_key : Option Open) → Option Open
 open_to_cancel b key (Some o) = Some o
 open_to_cancel b key None = if is_same_id key b.asked then open_message_1_1 b else None
 
-abbrev pub cancel_event : (octet : MessageOctet) (other : Option Open) → List Event
+abbrev pub cancel_event : (octet : MessageOctet) (message_to_cancel : Option Open) → List Event
 cancel_event now None = []
 cancel_event now (Some o) = if may_be_cancelled o.opener.header then event_of_open now (Some o)
     (Cancelled now.subject.number) else []
 
 abbrev pub cancel_request_events : (before : OpenState) (now : MessageOctet) (key : Option ℕ)
-    (other : Option Open) → List Event
+    (open_under_key : Option Open) → List Event
 cancel_request_events b now key other = cancel_event now (open_to_cancel b key other)
 
-unfoldable pub naming_events : (most : ℕ) (before : OpenState) (now : MessageOctet) (key : Option ℕ)
-    (other : Option Open) → List Event
+unfoldable pub naming_events : (most_open_messages : ℕ) (before : OpenState) (now : MessageOctet)
+    (key : Option ℕ) (open_under_key : Option Open) → List Event
 naming_events most b now key other =
     if is_any_fragment now.subject.header then fragment_events b now key other
     else if has_fragments now.subject.header then opening_events most b now key other
@@ -197,7 +196,8 @@ naming_events most b now key other =
 
 -- ---- The message's last octet.
 
-unfoldable pub message_end_events : (octet : MessageOctet) (other : Option Open) → List Event
+unfoldable pub message_end_events : (octet : MessageOctet) (open_under_key : Option Open) →
+    List Event
 message_end_events now other =
     if is_too_short_for_id now.subject.header then own_event now (Faults Short)
     else if has_fragments now.subject.header then []
@@ -207,9 +207,8 @@ message_end_events now other =
 
 -- ---- All that one octet does.
 
-unfoldable pub events_with_key : (most : ℕ) (before : OpenState) (now : MessageOctet)
-    (key : Option ℕ)
-    (other : Option Open) → List Event
+unfoldable pub events_with_key : (most_open_messages : ℕ) (before : OpenState) (now : MessageOctet)
+    (key : Option ℕ) (open_under_key : Option Open) → List Event
 events_with_key most b now key other =
     (if now.payload_count == 0 then header_events now else payload_events now other)
     ++ ((if now.payload_count == lookup_offset now.subject.header
@@ -227,7 +226,7 @@ unfoldable pub key : (message : CutMessage) → Option ℕ
 key m = if is_fragmented_1_1 m.header then None else Some (id m)
 
 -- the open message under a key; the one without a key is the one that Fragments of 1.1 continue
-abbrev pub open_under : (before : OpenState) (id : Option ℕ) → Option Open
+abbrev pub open_under : (before : OpenState) (key : Option ℕ) → Option Open
 open_under b (Some id) = find (λ o. is_same_id o.key (Some id)) b.still_open
 open_under b None = open_message_1_1 b
 
@@ -242,28 +241,31 @@ is_named_fragment m = is_any_fragment m.header && nat_le (lookup_offset m.header
 unfoldable pub has_joined_octets : (message : CutMessage) → Bool
 has_joined_octets m = is_any_fragment m.header && nat_lt (lookup_offset m.header) (length m.payload)
 
-abbrev pub events_at_header : (message : CutMessage) → List Event
+abbrev pub events_at_header : (message_up_to_octet : CutMessage) → List Event
 events_at_header m = header_events (last_octet_of m)
 
 -- only what this octet does as one of the payload: a message takes it
-abbrev pub events_at_octet : (before : OpenState) (message : CutMessage) → List Event
+abbrev pub events_at_octet : (before : OpenState) (message_up_to_octet : CutMessage) → List Event
 events_at_octet b m = payload_events (last_octet_of m) (opener_of b m)
 
 -- only what this octet does as the one with which the open message is looked for
-abbrev pub events_at_name : (most : ℕ) (before : OpenState) (message : CutMessage) → List Event
+abbrev pub events_at_name : (most_open_messages : ℕ) (before : OpenState)
+    (message_up_to_octet : CutMessage) → List Event
 events_at_name most b m = naming_events most b (last_octet_of m) (key m) (opener_of b m)
 
-abbrev pub events_at_end : (before : OpenState) (message : CutMessage) → List Event
+abbrev pub events_at_end : (before : OpenState) (message_up_to_octet : CutMessage) → List Event
 events_at_end b m = message_end_events (last_octet_of m) (opener_of b m)
 
 -- all that this octet does: as one of the header or the payload, as the one with which the open
 -- message is looked for, and as the last one of the message
-unfoldable pub events_of_octet : (most : ℕ) (before : OpenState) (message : CutMessage) → List Event
+unfoldable pub events_of_octet : (most_open_messages : ℕ) (before : OpenState)
+    (message_up_to_octet : CutMessage) → List Event
 unfolding events_with_key
 events_of_octet most b m = events_with_key most b (last_octet_of m) (key m) (opener_of b m)
 
 -- all that the octets of m do, from the last octet of its header on, if this stood before it
-unfoldable pub events_of : (most : ℕ) (before : OpenState) (message : CutMessage) → List Event
+unfoldable pub events_of : (most_open_messages : ℕ) (before : OpenState) (message : CutMessage) →
+    List Event
 events_of most b m =
     flat_map (λ front. events_of_octet most b (with_payload m front)) (fronts m.payload)
 
@@ -306,17 +308,19 @@ octets_of_event (Faults fault) = []
 octets_of_event Closes = []
 
 -- the octets of the joined message of this number, after its header
-unfoldable pub joined_octets : (number : ℕ) (events : List Event) → List ℕ
+unfoldable pub joined_octets : (message_number : ℕ) (events : List Event) → List ℕ
 joined_octets number events =
     flat_map (λ e. if e.subject.number == number then octets_of_event e.what else []) events
 
 -- what padding is counted by after an event of a message that has these octets
-abbrev pub phase_after_event : (so_far : List ℕ) (phase : Phase) (what : EventKind) → Phase
+abbrev pub phase_after_event : (octets_so_far : List ℕ) (phase : Phase) (event_kind : EventKind) →
+    Phase
 phase_after_event so_far phase Seams = seamed phase (12 + length so_far)
 phase_after_event so_far phase what = phase
 
 -- the same after these events of the message of this number; the events before them are `past`
-unfoldable pub phase_from : (number : ℕ) (phase : Phase) (past events : List Event) → Phase
+unfoldable pub phase_from : (message_number : ℕ) (phase_before : Phase)
+    (events_before events : List Event) → Phase
 phase_from number phase past [] = phase
 phase_from number phase past (e ∷ es) =
     phase_from number
@@ -325,7 +329,7 @@ phase_from number phase past (e ∷ es) =
     (past ++ e ∷ []) es
 
 -- what padding is counted by in the joined message of this number
-unfoldable pub phase_of : (number : ℕ) (events : List Event) → Phase
+unfoldable pub phase_of : (message_number : ℕ) (events : List Event) → Phase
 phase_of number events = phase_from number unbroken [] events
 
 -- ---- What stands before an octet, by all events before it.
@@ -341,9 +345,8 @@ ends_joining e = is_opener_1_1 e.subject.header && is_opening_fault e.what
 
 -- whether an event ends its message, of which these octets came before it: a fault by the framing,
 -- a cancel and a close do, and an octet whose reading has a last line
-abbrev pub event_ends_message : (R : Rules) (phase : Phase) (so_far : List ℕ) (event : Event)
-    (what : EventKind) →
-    Bool
+abbrev pub event_ends_message : (R : Rules) (phase : Phase) (octets_so_far : List ℕ) (event : Event)
+    (event_kind : EventKind) → Bool
 event_ends_message R phase so_far e (Takes x) = list_any (λ r. is_last_class r.line_class)
     (next_lines R.reading phase e.subject.number e.subject.header so_far x)
 event_ends_message R phase so_far e (Cancelled j) = true
@@ -352,20 +355,22 @@ event_ends_message R phase so_far e Closes = true
 event_ends_message R phase so_far e what = false
 
 -- whether these events end the message of this number; the events before them are `past`
-unfoldable pub has_ended : (R : Rules) (number : ℕ) (past events : List Event) → Bool
+unfoldable pub has_ended : (R : Rules) (message_number : ℕ) (events_before events : List Event) →
+    Bool
 has_ended R number past [] = false
 has_ended R number past (e ∷ es) =
     ((e.subject.number == number) && event_ends_message R (phase_of number past)
     (joined_octets number past) e e.what)
     || has_ended R number (past ++ e ∷ []) es
 
-abbrev pub pending_id : (R : Rules) (past : List Event) (other : Option Open) → Option ℕ
+abbrev pub pending_id : (R : Rules) (events_so_far : List Event) (open_message : Option Open) →
+    Option ℕ
 pending_id R past None = None
 pending_id R past (Some o) = if has_ended R o.opener.number [] past then None else
     R.asks (phase_of o.opener.number past) o.opener.number o.opener.header
     (joined_octets o.opener.number past)
 
-unfoldable pub before_by : (R : Rules) (past : List Event) → OpenState
+unfoldable pub before_by : (R : Rules) (events_so_far : List Event) → OpenState
 before_by R past = record {
   still_open = open_after_events [] past;
   mixed = not R.joins || list_any ends_joining past;
@@ -373,7 +378,7 @@ before_by R past = record {
 }
 
 -- the events of these messages, after these events of the messages before them
-unfoldable pub events_from : (R : Rules) (past : List Event) (messages : List CutMessage) →
+unfoldable pub events_from : (R : Rules) (events_before : List Event) (messages : List CutMessage) →
     List Event
 events_from R past [] = []
 events_from R past (m ∷ ms) =

@@ -21,13 +21,14 @@ pub record Cut : Type 0 where
   pub held : List ℕ  -- the octets of the next header that have come
   pub stop : Option (ℕ × StreamFault)  -- the stream fault, with the place of its octet
 
-unfoldable pub with_first : (message : CutMessage) (cut_stream : Cut) → Cut
+unfoldable pub with_first : (first_message : CutMessage) (cut_stream : Cut) → Cut
 with_first m c = record c { whole = m ∷ c.whole }
 
 -- The rest of the stream, cut into at most `fuel` messages. The next message has the number
 -- `number`, and `before` octets of the stream come before it. The `elim` looks for a wrong octet in
 -- the header first, so that nothing is cut after such an octet.
-unfoldable pub cut_from : (fuel number before : ℕ) (octets : List ℕ) → Cut
+unfoldable pub cut_from : (fuel next_message_number stream_octets_before : ℕ)
+    (rest_of_stream : List ℕ) → Cut
 cut_from zero number before octets = record { whole = []; current = None; held = []; stop = None }
 cut_from (suc fuel) number before octets =
     let header = take 12 octets in
@@ -66,11 +67,12 @@ cut_from (suc fuel) number before octets =
 unfoldable pub limit : ℕ
 limit = 2 ^ 48
 
-abbrev pub stop_or_limit : (found : Option (ℕ × StreamFault)) (cut_stream : Cut) → Cut
+abbrev pub stop_or_limit : (stop_place_and_fault : Option (ℕ × StreamFault)) (cut_stream : Cut) →
+    Cut
 stop_or_limit (Some found) c = c
 stop_or_limit None c = record c { held = []; stop = Some (suc limit, StreamLimit) }
 
-unfoldable pub limited : (is_limited : Bool) (cut_stream : Cut) → Cut
+unfoldable pub limited : (is_beyond_limit : Bool) (cut_stream : Cut) → Cut
 limited false c = c
 limited true c = stop_or_limit c.stop c
 
@@ -83,18 +85,18 @@ unfoldable pub messages : (cut_stream : Cut) → List CutMessage
 messages c = c.whole ++ option_to_list c.current
 
 -- how many octets are read, with the octet of a stream fault
-unfoldable pub octets_read : (stream : List ℕ) (found : Option (ℕ × StreamFault)) → ℕ
+unfoldable pub octets_read : (stream : List ℕ) (stop_place_and_fault : Option (ℕ × StreamFault)) → ℕ
 octets_read stream None = length stream
 octets_read stream (Some found) = found.0
 
-abbrev pub fault_of : (found : Option (ℕ × StreamFault)) → Option StreamFault
+abbrev pub fault_of : (stop_place_and_fault : Option (ℕ × StreamFault)) → Option StreamFault
 fault_of None = None
 fault_of (Some found) = Some found.1
 
 -- how many octets are missing until the end of the message that a stream is in, by the stream
 -- fault, the last message, and what is held of the next header
-abbrev pub lacking_by : (found : Option (ℕ × StreamFault)) (current : Option CutMessage)
-    (held : List ℕ) → Option ℕ
+abbrev pub lacking_by : (stop_place_and_fault : Option (ℕ × StreamFault))
+    (incomplete_message : Option CutMessage) (header_octets_held : List ℕ) → Option ℕ
 lacking_by (Some found) current held = None
 lacking_by None (Some m) held = Some (size m.header - length m.payload)
 lacking_by None None [] = Some 0

@@ -14,7 +14,8 @@ with_header_octet m octet = record m {
 }
 
 -- the reading ends with a fault at this place
-unfoldable pub stopped_with : (fields : FramingView) (fault : StreamFault) (place : ℕ) → FramingView
+unfoldable pub stopped_with : (fields : FramingView) (fault : StreamFault)
+    (place_in_stream_from_1 : ℕ) → FramingView
 stopped_with m fault place = record m {
   totals = record { messages = m.totals.messages; faults = suc m.totals.faults; octets = place };
   stopped = Some fault;
@@ -23,7 +24,7 @@ stopped_with m fault place = record m {
 }
 
 -- if all octets of a payload of this size have come, the next header begins
-unfoldable pub cleared_if_complete : (fields : FramingView) (size : ℕ) → FramingView
+unfoldable pub cleared_if_complete : (fields : FramingView) (payload_size : ℕ) → FramingView
 cleared_if_complete m size = if m.payload_count == size then
     record m { header = []; payload_count = 0 } else m
 

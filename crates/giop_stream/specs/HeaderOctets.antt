@@ -16,7 +16,7 @@ fault_unless false fault = Some fault
 -- The fault at the last octet of a header's front, if that octet is wrong. Right are `GIOP`, the
 -- major version 1, a minor version up to 2, and in 1.0 a byte order of 0 or 1. The octets of the
 -- size and the type may have any value.
-unfoldable pub last_octet_fault : (front : List ℕ) → Option StreamFault
+unfoldable pub last_octet_fault : (header_front : List ℕ) → Option StreamFault
 last_octet_fault front =
     let at = length front - 1 in
     let octet = get_or front at 0 in
@@ -31,13 +31,13 @@ last_octet_fault front =
     else None)))))))
 
 -- a fault at the last one of `size` octets, or, if there is none, what was found after it
-abbrev pub wrong_or : (fault : Option StreamFault) (size : ℕ) (later : Option (ℕ × StreamFault)) →
-    Option (ℕ × StreamFault)
+abbrev pub wrong_or : (fault_here : Option StreamFault) (octets_to_here : ℕ)
+    (found_later : Option (ℕ × StreamFault)) → Option (ℕ × StreamFault)
 wrong_or (Some fault) size later = Some (size, fault)
 wrong_or None size later = later
 
 -- the first one of these fronts that is wrong: how many octets it has, and the fault
-unfoldable pub first_front_fault : (more : List (List ℕ)) → Option (ℕ × StreamFault)
+unfoldable pub first_front_fault : (header_fronts : List (List ℕ)) → Option (ℕ × StreamFault)
 first_front_fault [] = None
 first_front_fault (front ∷ more) = wrong_or (last_octet_fault front) (length front)
     (first_front_fault more)

@@ -77,7 +77,7 @@ abbrev pub nothing_kept : Kept
 nothing_kept = record { octets = []; phase = unbroken }
 
 -- what these events keep of the message of this number
-abbrev pub kept_of : (number : ℕ) (events : List Event) → Kept
+abbrev pub kept_of : (message_number : ℕ) (events : List Event) → Kept
 kept_of number events = record {
   octets = joined_octets number events;
   phase =
@@ -86,8 +86,8 @@ kept_of number events = record {
 
 -- The lines of one event. Of its message `so_far` is kept before the event, and `all` of the whole
 -- stream.
-unfoldable pub lines_of_event : (R : MessageReader) (event : Event) (so_far all : Kept)
-    (event_kind : EventKind) → List StreamLine
+unfoldable pub lines_of_event : (R : MessageReader) (event : Event)
+    (kept_before kept_of_whole_stream : Kept) (event_kind : EventKind) → List StreamLine
 lines_of_event R e so_far all Begins = line e (Started e.subject.header) ∷ []
 lines_of_event R e so_far all (Takes x) =
     map (λ r. line e (Said r.line_class r.text))
@@ -103,8 +103,8 @@ lines_of_event R e so_far all Closes = map (λ l. line e (Said l.0 l.1))
 
 -- The lines of these events. The events before them are `past`, and those of the whole stream are
 -- `all`.
-unfoldable pub lines_of_events : (R : MessageReader) (all past events : List Event) →
-    List StreamLine
+unfoldable pub lines_of_events : (R : MessageReader)
+    (all_events events_before events : List Event) → List StreamLine
 lines_of_events R all past [] = []
 lines_of_events R all past (e ∷ es) =
     lines_of_event R e (kept_of e.subject.number past) (kept_of e.subject.number all) e.what
@@ -115,7 +115,7 @@ lines_of_events R all past (e ∷ es) =
 unfoldable pub by_class : (lines : List StreamLine) → List StreamLine
 by_class lines = flat_map (λ class. filter (has_class class) lines) classes
 
-unfoldable pub in_order : (number : ℕ) (lines : List StreamLine) → List StreamLine
+unfoldable pub in_order : (last_place : ℕ) (lines : List StreamLine) → List StreamLine
 in_order zero lines = []
 in_order (suc number) lines =
     in_order number lines ++ by_class (filter (λ l. l.place == suc number) lines)
@@ -129,12 +129,13 @@ is_last_content (CancelledBy j) = true
 is_last_content (Faulted fault) = true
 is_last_content (Stopped fault) = false
 
-unfoldable pub is_last_line_of : (number : ℕ) (l : StreamLine) → Bool
+unfoldable pub is_last_line_of : (message_number : ℕ) (stream_line : StreamLine) → Bool
 is_last_line_of number l = (l.number == number) && is_last_content l.content
 
 -- The lines of each message up to its first fault, cancelled line or end. There are none of a
 -- message for which `is_over` is true.
-unfoldable pub up_to_last_line : (is_over : ℕ → Bool) (lines : List StreamLine) → List StreamLine
+unfoldable pub up_to_last_line : (is_message_over : ℕ → Bool) (lines : List StreamLine) →
+    List StreamLine
 up_to_last_line is_over [] = []
 up_to_last_line is_over (l ∷ ls) =
     if is_over l.number then up_to_last_line is_over ls
@@ -146,7 +147,7 @@ lines_of_messages R stream =
     let all = events R stream in
     up_to_last_line (λ i. false) (in_order (length stream) (lines_of_events R.reading all [] all))
 
-unfoldable pub stop_line : (found : Option (ℕ × StreamFault)) → List StreamLine
+unfoldable pub stop_line : (stop_place_and_fault : Option (ℕ × StreamFault)) → List StreamLine
 stop_line None = []
 stop_line (Some found) = record { place = found.0; number = 0; content = Stopped found.1 } ∷ []
 

@@ -20,7 +20,7 @@ KeptByNumber = ℕ → Option Kept
 unfoldable pub known_of : (R : Rules) (stream : List ℕ) → KeptByNumber
 known_of R stream i = if is_over R stream i then None else Some (kept_of i (events R stream))
 
-unfoldable pub is_open : (still_open : List Open) (number : ℕ) → Bool
+unfoldable pub is_open : (still_open : List Open) (message_number : ℕ) → Bool
 is_open still_open number = list_any (λ o. o.opener.number == number) still_open
 
 -- each open message, with what is kept of it
@@ -46,16 +46,17 @@ tracked_after R stream = record {
 -- ---- What stands before the next octet, by what is tracked.
 
 -- the request id that a message has given, unless it is over
-abbrev pub given_id : (asks : RequestIds) (key : MessageKey) (kept : Option Kept) → Option ℕ
+abbrev pub given_id : (request_id_by_octets : RequestIds) (key : MessageKey) (kept : Option Kept) →
+    Option ℕ
 given_id asks w None = None
 given_id asks w (Some kept) = asks kept.phase w.number w.header kept.octets
 
-abbrev pub given_id_of_open : (asks : RequestIds) (known : KeptByNumber) (other : Option Open) →
-    Option ℕ
+abbrev pub given_id_of_open : (request_id_by_octets : RequestIds) (known : KeptByNumber)
+    (open_message : Option Open) → Option ℕ
 given_id_of_open asks known None = None
 given_id_of_open asks known (Some o) = given_id asks o.opener (known o.opener.number)
 
-unfoldable pub before_in : (asks : RequestIds) (tracked : Tracked) → OpenState
+unfoldable pub before_in : (request_id_by_octets : RequestIds) (tracked : Tracked) → OpenState
 before_in asks c = record {
   still_open = c.still_open;
   mixed = c.mixed;
@@ -67,13 +68,13 @@ abbrev pub slots_at : (tracked : Tracked) → List Slot
 slots_at c = slots_of c.known c.still_open
 
 -- no open message has this number
-abbrev pub IsNotOpen : (number : ℕ) (still_open : List Open) → Type 0
+abbrev pub IsNotOpen : (message_number : ℕ) (still_open : List Open) → Type 0
 IsNotOpen number still_open = Each (λ o. o.opener.number ≡ number → ⊥) still_open
 
 -- ---- The finish.
 
 -- the number of a message, if octets of it are kept: then it has neither ended nor been faulted
-abbrev pub number_if_kept : (number : ℕ) (kept : Option Kept) → List ℕ
+abbrev pub number_if_kept : (message_number : ℕ) (kept : Option Kept) → List ℕ
 number_if_kept number None = []
 number_if_kept number (Some kept) = number ∷ []
 

@@ -50,14 +50,14 @@ BeginsWithRequestId header = (T : Ty) × (header_type 1 (minor header) (kind hea
 -- The request id of a message is complete; or, in 1.1, its header is. If the message has a place
 -- among the open ones, it is neither open nor over.
 pub record IsAtName (C : Table) (answers : Answers) (slots : Slots) (tracked : Tracked)
-    (m : CutMessage)
-    (now : Current) (i : Option ℕ) : Type 0 where
-  pub keeps : SlotsRepresent C answers slots tracked (Some (message_key m))
+    (message : CutMessage) (now : Current) (open_key : Option ℕ) : Type 0 where
+  pub keeps : SlotsRepresent C answers slots tracked (Some (message_key message))
   pub rising : NumbersRise tracked.still_open
-  pub current : IsCurrent now m
-  pub key_is : acts_on_open m.header ≡ true → key m ≡ i
-  pub not_open : acts_on_open m.header ≡ true → IsNotOpen m.number tracked.still_open
-  pub alive : acts_on_open m.header ≡ true → (kept : Kept) × (tracked.known m.number ≡ Some kept)
+  pub current : IsCurrent now message
+  pub key_is : acts_on_open message.header ≡ true → key message ≡ open_key
+  pub not_open : acts_on_open message.header ≡ true → IsNotOpen message.number tracked.still_open
+  pub alive : acts_on_open message.header ≡ true → (kept : Kept) ×
+      (tracked.known message.number ≡ Some kept)
 
 -- The slots represent what is tracked at an octet of a message, the last one that has come.
 pub record IsAtOctet (C : Table) (answers : Answers) (slots : Slots) (tracked : Tracked)
@@ -71,24 +71,27 @@ pub record IsAtOctet (C : Table) (answers : Answers) (slots : Slots) (tracked : 
 -- ---- An octet that has come, part by part: its owner, its events as its message has its place
 -- among the open ones, and its events at the end.
 
-unfoldable pub owner_of_octet : (before : OpenState) (message : CutMessage) → Option MessageKey
+unfoldable pub owner_of_octet : (before : OpenState) (message_up_to_octet : CutMessage) →
+    Option MessageKey
 owner_of_octet b m = if has_joined_octets m then opener_key (opener_of b m) else Some
     (message_key m)
 
-unfoldable pub events_if_at_name : (most : ℕ) (before : OpenState) (message : CutMessage) →
-    List Event
+unfoldable pub events_if_at_name : (most_open_messages : ℕ) (before : OpenState)
+    (message_up_to_octet : CutMessage) → List Event
 events_if_at_name most b m =
     if length m.payload == lookup_offset m.header then events_at_name most b m else []
 
-unfoldable pub events_if_at_end : (before : OpenState) (message : CutMessage) → List Event
+unfoldable pub events_if_at_end : (before : OpenState) (message_up_to_octet : CutMessage) →
+    List Event
 events_if_at_end b m = if length m.payload == size m.header then events_at_end b m else []
 
 -- the owner of the octets after it
-unfoldable pub owner_after : (before : OpenState) (message : CutMessage) → Option MessageKey
+unfoldable pub owner_after : (before : OpenState) (message_up_to_octet : CutMessage) →
+    Option MessageKey
 owner_after b m = if length m.payload == size m.header then None else owner_of_next b m
 
 -- each open message has a smaller number than this
-abbrev pub IsNewest : (number : ℕ) (still_open : List Open) → Type 0
+abbrev pub IsNewest : (message_number : ℕ) (still_open : List Open) → Type 0
 IsNewest number still_open = Each (λ o. o.opener.number < number) still_open
 
 -- what is kept of a message that has its own payload alone
@@ -128,53 +131,51 @@ pub record IsBeforeOctet (tracked : Tracked) (message : CutMessage) (now : Curre
 -- what these octets of a message do, which only add to its contents, if one more octet comes after
 -- them
 abbrev pub effect_before : (C : Table) (answers : Answers) (tracked : Tracked)
-    (message : CutMessage) (now : Current)
-    (octets : List ℕ) → Effect
+    (message : CutMessage) (now : Current) (octets_before_last : List ℕ) → Effect
 effect_before C l c m now octets = run_effect C l (now.place - suc (length octets)) c
     (owner_of_next (before_with C l c) m) octets
 
--- The slots represent what is tracked before octets of a message come: first `q`, which only add to
--- its contents, and then x.
-pub record IsBeforeOctets (C : Table) (answers : Answers) (slots : Slots) (c : Tracked)
-    (message : CutMessage)
-    (now : Current) (q : List ℕ) (octet : ℕ) : Type 0 where
-  pub keeps : SlotsRepresent C answers slots c (owner_of_next (before_with C answers c) message)
-  pub rising : NumbersRise c.still_open
+-- The slots represent what is tracked before octets of a message come: first those that only add to
+-- its contents, and then a last one.
+pub record IsBeforeOctets (C : Table) (answers : Answers) (slots : Slots) (tracked : Tracked)
+    (message : CutMessage) (now : Current) (octets_before_last : List ℕ) (last_octet : ℕ)
+    : Type 0 where
+  pub keeps : SlotsRepresent C answers slots tracked
+      (owner_of_next (before_with C answers tracked) message)
+  pub rising : NumbersRise tracked.still_open
   pub same_owner : owner_of_next (before_with C answers
-      (effect_before C answers c message now q).tracked)
-      (with_payload message (message.payload ++ q)) ≡ owner_of_next
-      (before_with C answers c) message
-  pub last : IsBeforeOctet (effect_before C answers c message now q).tracked (with_payload message
-      (message.payload ++ q))
-      now octet
+      (effect_before C answers tracked message now octets_before_last).tracked)
+      (with_payload message (message.payload ++ octets_before_last)) ≡ owner_of_next
+      (before_with C answers tracked) message
+  pub last : IsBeforeOctet (effect_before C answers tracked message now octets_before_last).tracked
+      (with_payload message (message.payload ++ octets_before_last)) now last_octet
 
 -- what the events of an octet that has come do
-abbrev pub octet_effect : (C : Table) (answers : Answers) (most : ℕ) (tracked : Tracked)
-    (message : CutMessage) →
-    Effect
+abbrev pub octet_effect : (C : Table) (answers : Answers) (most_open_messages : ℕ)
+    (tracked : Tracked) (message_up_to_octet : CutMessage) → Effect
 octet_effect C l most c m =
     effects (message_reader C l) c (events_of_octet most (before_with C l c) m)
 
 -- what all these octets do: the first ones add to the contents, and the last one does what its
 -- events do
-abbrev pub octets_effect : (C : Table) (answers : Answers) (most : ℕ) (tracked : Tracked)
-    (message : CutMessage)
-    (now : Current) (octets : List ℕ) (octet : ℕ) → Effect
+abbrev pub octets_effect : (C : Table) (answers : Answers) (most_open_messages : ℕ)
+    (tracked : Tracked) (message : CutMessage) (now : Current) (octets_before_last : List ℕ)
+    (last_octet : ℕ) → Effect
 octets_effect C l most c m now octets octet =
     let ran = effect_before C l c m now octets in
     then_effect ran (octet_effect C l most ran.tracked
     (with_octet (with_payload m (m.payload ++ octets)) octet))
 
 -- The slots represent what is tracked before a message begins, at the last octet of its header.
-pub record IsBeforeMessage (C : Table) (l : Answers) (s : Slots) (c : Tracked)
+pub record IsBeforeMessage (C : Table) (answers : Answers) (slots : Slots) (tracked : Tracked)
     (owner : Option MessageKey) (message : CutMessage) (now : Current) : Type 0 where
-  pub keeps : SlotsRepresent C l s c owner
-  pub rising : NumbersRise c.still_open
+  pub keeps : SlotsRepresent C answers slots tracked owner
+  pub rising : NumbersRise tracked.still_open
   pub current : IsCurrent now message
   pub none_come : message.payload ≡ []
   pub payload_count : now.payload_count ≡ 0
-  pub newest : IsNewest message.number c.still_open
-  pub unknown : c.known message.number ≡ Some nothing_kept
+  pub newest : IsNewest message.number tracked.still_open
+  pub unknown : tracked.known message.number ≡ Some nothing_kept
 
 -- The slots represent what is tracked after a message has begun, at the last octet of its header.
 pub record IsAtHeader (C : Table) (answers : Answers) (slots : Slots) (tracked : Tracked)

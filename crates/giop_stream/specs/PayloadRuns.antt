@@ -10,17 +10,16 @@ use Rattle.giop_stream.specs.Lines.{Kept}
 use Rattle.giop_stream.specs.OpenSlots.{Tracked}
 
 -- The octets come after `before` octets of the stream, and are contents of their owner.
-unfoldable pub run_effect : (C : Table) (answers : Answers) (before : ℕ) (tracked : Tracked)
-    (owner_of_next : Option MessageKey) (octets : List ℕ) → Effect
+unfoldable pub run_effect : (C : Table) (answers : Answers) (stream_octets_before : ℕ)
+    (tracked : Tracked) (owner_of_next : Option MessageKey) (payload_octets : List ℕ) → Effect
 run_effect C l before c owner_of_next [] = no_effect c
 run_effect C l before c owner_of_next (x ∷ xs) =
     let one = effect_to C l (suc before) c owner_of_next (Takes x) in
     then_effect one (run_effect C l (suc before) one.tracked owner_of_next xs)
 
 -- the same for the owner alone, of which `o` is kept, unless it is over
-unfoldable pub run_message_effect : (C : Table) (answers : Answers) (before : ℕ) (key : MessageKey)
-    (kept : Option Kept)
-    (octets : List ℕ) → MessageEffect
+unfoldable pub run_message_effect : (C : Table) (answers : Answers) (stream_octets_before : ℕ)
+    (key : MessageKey) (kept : Option Kept) (payload_octets : List ℕ) → MessageEffect
 run_message_effect C l before w o [] = no_message_effect o
 run_message_effect C l before w o (x ∷ xs) =
     let one = message_effect (message_reader C l) (event (suc before) w (Takes x)) o in

@@ -31,7 +31,7 @@ asks_by C a phase number header xs =
 
 -- the rules of a table, of the operations that the ids of each message answer, and of this number
 -- of open messages
-abbrev pub rules_by : (C : Table) (answers : Answers) (most : ℕ) → Rules
+abbrev pub rules_by : (C : Table) (answers : Answers) (most_open_messages : ℕ) → Rules
 rules_by C a most = record {
   reading = message_reader C a;
   asks = asks_by C a;
@@ -40,7 +40,7 @@ rules_by C a most = record {
 }
 
 -- the rules if a request table gives the operations, the same ones for each message
-abbrev pub rules : (C : Table) (request_table : RequestTable) (most : ℕ) → Rules
+abbrev pub rules : (C : Table) (request_table : RequestTable) (most_open_messages : ℕ) → Rules
 rules C l most = rules_by C (by_list l) most
 
 -- the greatest number of open messages that an engine may allow

@@ -20,7 +20,7 @@ use Rattle.giop_stream.specs.OpenSlots.{Slot, Tracked, slots_at, IsNotOpen}
 abbrev pub OpenEntry : Type 0
 OpenEntry = Entry Contents
 
-abbrev pub open_entry : (key : Option ℕ) (number : ℕ) (header : List ℕ)
+abbrev pub open_entry : (key : Option ℕ) (message_number : ℕ) (header : List ℕ)
     (message : Option CodeMessage) → OpenEntry
 open_entry key number header message =
     record { key = key; value = record { number = number; header = header; message = message } }
@@ -40,7 +40,8 @@ RepresentsMessage C l None w (Some kept) = ⊥
 
 -- A message can take the octet at this place: it fits the table, and has fewer octets than the
 -- stream has up to this place.
-abbrev pub IsReady : (C : Table) (place : ℕ) (message : Option CodeMessage) → Type 0
+abbrev pub IsReady : (C : Table) (place_in_stream_from_1 : ℕ) (message : Option CodeMessage) →
+    Type 0
 IsReady C at None = Unit {0}
 IsReady C at (Some m) = Fits C m × (octets_taken m < at)
 
@@ -55,9 +56,10 @@ index_of (Current message is_over) = None
 index_of (Open k) = k
 
 -- each message in the slots can take the octet at this place
-pub record AreReady (C : Table) (place : ℕ) (s : Slots) : Type 0 where
-  pub current_ready : IsReady C place (current_of s.owner)
-  pub each_ready : Each (λ slot. IsReady C place slot.value.message) s.slots.entries
+pub record AreReady (C : Table) (place_in_stream_from_1 : ℕ) (slots : Slots) : Type 0 where
+  pub current_ready : IsReady C place_in_stream_from_1 (current_of slots.owner)
+  pub each_ready : Each (λ slot. IsReady C place_in_stream_from_1 slot.value.message)
+      slots.slots.entries
 
 -- there is as much room as before: the same number of messages may be open; and if each message in
 -- the slots could take the octet at a place, each of them still can
@@ -65,14 +67,15 @@ pub record KeepsRoom (old new : Slots) : Type 0 where
   pub most : new.slots.most ≡ old.slots.most
   pub ready : (C : Table) (at : ℕ) → AreReady C at old → AreReady C at new
 
-pub record IsSlot (C : Table) (answers : Answers) (kept : OpenEntry) (slot : Slot) : Type 0 where
-  pub number : kept.value.number ≡ slot.open_as.opener.number
-  pub header : kept.value.header ≡ slot.open_as.opener.header
-  pub key : kept.key ≡ slot.open_as.key
-  pub message : RepresentsMessage C answers kept.value.message slot.open_as.opener slot.kept
+pub record IsSlot (C : Table) (answers : Answers) (code_entry : OpenEntry) (slot : Slot)
+    : Type 0 where
+  pub number : code_entry.value.number ≡ slot.open_as.opener.number
+  pub header : code_entry.value.header ≡ slot.open_as.opener.header
+  pub key : code_entry.key ≡ slot.open_as.key
+  pub message : RepresentsMessage C answers code_entry.value.message slot.open_as.opener slot.kept
 
-abbrev pub AreSlots : (C : Table) (answers : Answers) (more : List OpenEntry) (slots : List Slot) →
-    Type 0
+abbrev pub AreSlots : (C : Table) (answers : Answers) (code_entries : List OpenEntry)
+    (slots : List Slot) → Type 0
 AreSlots C l [] [] = Unit {0}
 AreSlots C l (kept ∷ more) (slot ∷ slots) = IsSlot C l kept slot × AreSlots C l more slots
 AreSlots C l [] (slot ∷ slots) = ⊥
@@ -80,8 +83,8 @@ AreSlots C l (kept ∷ more) [] = ⊥
 
 -- the owner of the payload's octets: the open message at this index; or a message that isn't open,
 -- and this is kept of it; or none
-abbrev pub PayloadBelongs : (C : Table) (answers : Answers) (index : Option ℕ)
-    (message : Option CodeMessage) (tracked : Tracked) (owner : Option MessageKey) → Type 0
+abbrev pub PayloadBelongs : (C : Table) (answers : Answers) (open_index : Option ℕ)
+    (current_message : Option CodeMessage) (tracked : Tracked) (owner : Option MessageKey) → Type 0
 PayloadBelongs C l (Some index) message c None = ⊥
 PayloadBelongs C l (Some index) message c (Some w) =
     (o : events.Open) × (slice_get c.still_open index ≡ Some o) × (o.opener ≡ w)
@@ -91,20 +94,21 @@ PayloadBelongs C l None message c (Some w) =
 
 -- the slots are those of the open messages, with what is kept of each of them; it is known whether
 -- Fragments of 1.1 may belong to several messages; and the owner is this message
-pub record SlotsRepresent (C : Table) (answers : Answers) (s : Slots) (tracked : Tracked)
+pub record SlotsRepresent (C : Table) (answers : Answers) (code_slots : Slots) (tracked : Tracked)
     (owner_of_next : Option MessageKey) : Type 0 where
-  pub slots : AreSlots C answers s.slots.entries (slots_at tracked)
-  pub mixed : s.is_mixed ≡ tracked.mixed
-  pub owner : PayloadBelongs C answers (index_of s.owner) (current_of s.owner) tracked owner_of_next
+  pub slots : AreSlots C answers code_slots.slots.entries (slots_at tracked)
+  pub mixed : code_slots.is_mixed ≡ tracked.mixed
+  pub owner : PayloadBelongs C answers (index_of code_slots.owner) (current_of code_slots.owner)
+      tracked owner_of_next
 
 -- the index of the open message under this key; of the one without a key there is none if
 -- Fragments of 1.1 aren't joined any more
-abbrev pub index_under : (slots : Slots) (id : Option ℕ) → Option ℕ
+abbrev pub index_under : (slots : Slots) (key : Option ℕ) → Option ℕ
 index_under s (Some id) = position_from (λ slot. is_id id slot.key) 0 s.slots.entries
 index_under s None =
     if s.is_mixed then None else position_from (λ slot. is_none slot.key) 0 s.slots.entries
 
 -- the slots hold no message
-pub record IsBare (s : Slots) : Type 0 where
-  pub no_slots : s.slots.entries ≡ []
-  pub no_owner : s.owner ≡ Open None
+pub record IsBare (slots : Slots) : Type 0 where
+  pub no_slots : slots.slots.entries ≡ []
+  pub no_owner : slots.owner ≡ Open None

@@ -53,15 +53,15 @@ totals_so_far R stream =
     }
 
 -- Whether a stream ends inside a message or a header.
-unfoldable pub ends_inside : (current : Option CutMessage) (held : List ℕ)
-    (stop : Option (ℕ × StreamFault)) → Bool
+unfoldable pub ends_inside : (current_message : Option CutMessage) (header_octets_held : List ℕ)
+    (stop_place_and_fault : Option (ℕ × StreamFault)) → Bool
 ends_inside current held stop = is_none stop && (is_some current || nat_lt 0 (length held))
 
 unfoldable pub is_truncated : (cut_stream : Cut) → Bool
 is_truncated c = ends_inside c.current c.held c.stop
 
 -- whether a message has its last line
-unfoldable pub is_over : (R : Rules) (stream : List ℕ) (number : ℕ) → Bool
+unfoldable pub is_over : (R : Rules) (stream : List ℕ) (message_number : ℕ) → Bool
 is_over R stream number = list_any (is_last_line_of number) (lines_of_messages R stream)
 
 -- the numbers of the messages that aren't Fragments

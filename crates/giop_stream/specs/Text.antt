@@ -23,10 +23,10 @@ start_line number header =
     print.start_line number (minor header) (order header) (kind header) (size header)
     (has_more header)
 
-abbrev pub stop_text : (fault : StreamFault) (place : ℕ) → List ℕ
+abbrev pub stop_text : (fault : StreamFault) (place_in_stream_from_1 : ℕ) → List ℕ
 stop_text fault place = stream_fault_line (stream_word fault) place
 
-abbrev pub truncated_line : (place : ℕ) → List ℕ
+abbrev pub truncated_line : (place_in_stream_from_1 : ℕ) → List ℕ
 truncated_line place = stream_fault_line (codes "truncated") place
 
 abbrev pub framing_fault_word : (fault : FramingFault) → List ℕ
@@ -38,7 +38,7 @@ framing_fault_word IdOpen = codes "id-open"
 framing_fault_word TooManyOpen = codes "too-many-open"
 framing_fault_word FragmentOrder = codes "fragment-order"
 
-abbrev pub content_line : (place number : ℕ) (content : Content) → List ℕ
+abbrev pub content_line : (place_in_stream_from_1 message_number : ℕ) (content : Content) → List ℕ
 content_line place number (Started header) = start_line number header
 content_line place number (Said line_class text) = line_class_text place number line_class text
 content_line place number (ContinuesMessage i) = continues_line number i

@@ -27,13 +27,14 @@ pub record Shows (C : Table) (answers : Answers) (fields : FramingView)
   pub slots : SlotsRepresent C answers fields.slots state.tracked state.owner
 
 -- The state is the state of an engine that has read some stream of octets.
-pub record IsReached (C : Table) (answers : Answers) (most : ℕ) (state : State) : Type 0 where
+pub record IsReached (C : Table) (answers : Answers) (most_open_messages : ℕ) (state : State)
+    : Type 0 where
   pub stream : List ℕ
   pub octets : AreOctets stream
-  pub held : state ≡ state_of (rules_by C answers most) stream
+  pub held : state ≡ state_of (rules_by C answers most_open_messages) stream
 
 -- a call writes the lines of this step, and its fields then show the state of the step
 pub record Does {A E : Type 0} (C : Table) (answers : Answers) (result : Result A E)
-    (before after : OutLog) (fields : FramingView) (one : Step) : Type 0 where
-  pub text : Writes result before after (lines_text one.lines)
-  pub shows : OnOk result (Shows C answers fields one.state)
+    (before after : OutLog) (fields : FramingView) (step_done : Step) : Type 0 where
+  pub text : Writes result before after (lines_text step_done.lines)
+  pub shows : OnOk result (Shows C answers fields step_done.state)

@@ -8,15 +8,15 @@ use Rattle.giop_tokens.specs.Tokens.{Token, word, number, negative, repository, 
 -- ---- A token.
 
 -- a word doesn't begin with a digit
-pub record IsWord (w : List ℕ) : Type 0 where
-  pub some : 0 < length w
-  pub octets : AllByRecursion (λ b. is_word_octet b ≡ true) w
-  pub begins : is_digit (slice_index w 0) ≡ false
+pub record IsWord (word_octets : List ℕ) : Type 0 where
+  pub some : 0 < length word_octets
+  pub octets : AllByRecursion (λ b. is_word_octet b ≡ true) word_octets
+  pub begins : is_digit (slice_index word_octets 0) ≡ false
 
-pub record IsId (r : List ℕ) : Type 0 where
-  pub some : 0 < length r
-  pub few : length r ≤ 128
-  pub octets : AllByRecursion (λ b. is_id_octet b ≡ true) r
+pub record IsId (repository_id : List ℕ) : Type 0 where
+  pub some : 0 < length repository_id
+  pub few : length repository_id ≤ 128
+  pub octets : AllByRecursion (λ b. is_id_octet b ≡ true) repository_id
 
 abbrev pub IsToken : (token : Token) → Type 0
 IsToken (word w) = IsWord w
@@ -65,7 +65,7 @@ octets_of_spaces [] = []
 octets_of_spaces (s ∷ ss) = space_octets s ++ octets_of_spaces ss
 
 -- the last comment of a text may be without the end of its line
-abbrev pub IsUnendedComment : (tail : List ℕ) → Type 0
+abbrev pub IsUnendedComment : (comment_or_empty : List ℕ) → Type 0
 IsUnendedComment tail = (tail ≡ []) ⊎ ((c : List ℕ) × HasNoLineFeed c × (tail ≡ 47 ∷ 47 ∷ c))
 
 -- ---- A text.
@@ -75,14 +75,14 @@ pub record LaidToken : Type 0 where
   pub token : Token
   pub after : List Space
 
-abbrev pub laid_octets : (laids : List LaidToken) (tail : List ℕ) → List ℕ
+abbrev pub laid_octets : (laid_tokens : List LaidToken) (text_tail : List ℕ) → List ℕ
 laid_octets [] tail = tail
 laid_octets (l ∷ ls) tail = token_octets l.token
     ++ (octets_of_spaces l.after ++ laid_octets ls tail)
 
 -- No word octet follows a word or a number. So there is something between two of them; other tokens
 -- may touch.
-abbrev pub AreLaidTokens : (laids : List LaidToken) (tail : List ℕ) → Type 0
+abbrev pub AreLaidTokens : (laid_tokens : List LaidToken) (text_tail : List ℕ) → Type 0
 AreLaidTokens [] tail = IsUnendedComment tail
 AreLaidTokens (l ∷ ls) tail = IsToken l.token × AllByRecursion IsSpace l.after
     × (ends_in_word_octet l.token ≡ true → is_word_octet
@@ -90,19 +90,19 @@ AreLaidTokens (l ∷ ls) tail = IsToken l.token × AllByRecursion IsSpace l.afte
     × AreLaidTokens ls tail
 
 -- this token is the first one of the text, after white space and comments, and this text follows it
-pub record IsFirstToken (text : List ℕ) (t : Token) (rest : List ℕ) : Type 0 where
+pub record IsFirstToken (text : List ℕ) (first_token : Token) (rest : List ℕ) : Type 0 where
   pub front : List Space
   pub fronts : AllByRecursion IsSpace front
-  pub token : IsToken t
-  pub apart : ends_in_word_octet t ≡ true → is_word_octet (slice_index rest 0) ≡ false
-  pub octets : text ≡ octets_of_spaces front ++ (token_octets t ++ rest)
+  pub token : IsToken first_token
+  pub apart : ends_in_word_octet first_token ≡ true → is_word_octet (slice_index rest 0) ≡ false
+  pub octets : text ≡ octets_of_spaces front ++ (token_octets first_token ++ rest)
 
 -- the text is these tokens, written as they may be written
-pub record IsLayout (text : List ℕ) (ts : List Token) : Type 0 where
+pub record IsLayout (text : List ℕ) (text_tokens : List Token) : Type 0 where
   pub front : List Space
   pub laid : List LaidToken
   pub tail : List ℕ
   pub fronts : AllByRecursion IsSpace front
   pub each : AreLaidTokens laid tail
-  pub tokens : map (λ l. l.token) laid ≡ ts
+  pub tokens : map (λ l. l.token) laid ≡ text_tokens
   pub octets : text ≡ octets_of_spaces front ++ laid_octets laid tail

@@ -7,7 +7,7 @@ use Rattle.giop_tokens.specs.declared.fault.SigFaultKind.TheVariants as kinds
 
 -- The line, from 1, of the octet with which the last `left` octets of the text begin, or of the
 -- last octet if `left` is 0. A line feed belongs to the line that it ends.
-abbrev pub line_at : (text : List ℕ) (left : ℕ) → ℕ
+abbrev pub line_at : (text : List ℕ) (octets_left : ℕ) → ℕ
 line_at text left = 1 + count_by (λ b. b == 10) (take (length text - max 1 left) text)
 
 -- a refusal of memory has no line, each other one has the line of its place

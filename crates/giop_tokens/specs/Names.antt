@@ -29,17 +29,17 @@ later_reserved_words =
     ∷ codes "longdouble" ∷ []
 
 -- whether a word is reserved; the flag tells whether the file has version 3
-unfoldable pub is_reserved : (version_3 : Bool) (word : List ℕ) → Bool
+unfoldable pub is_reserved : (is_version_3 : Bool) (word : List ℕ) → Bool
 is_reserved third word =
     list_any (bytes_eq word) reserved_words
     || (third && list_any (bytes_eq word) later_reserved_words)
 
 -- the refusal of the first token of a text, because it is too long
-abbrev pub too_long : (text : List ℕ) → TokenError
+abbrev pub too_long : (text_with_long_token_next : List ℕ) → TokenError
 too_long text = record { kind = kinds.Limit; left = octets_left_at_token text }
 
 -- a name: a word that isn't reserved, of at most 64 octets
-unfoldable pub identifier_at : (version_3 : Bool) (text : List ℕ) → Result
+unfoldable pub identifier_at : (is_version_3 : Bool) (text : List ℕ) → Result
     (List ℕ × List ℕ) TokenError
 identifier_at third text = do
   w ← word_at text

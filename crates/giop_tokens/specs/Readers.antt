@@ -11,11 +11,11 @@ use Rattle.giop_tokens.specs.Tokens.{Token, word, number, negative, repository, 
 use Rattle.giop_tokens.specs.Reading.{◌>>=◌}
 
 -- the refusal of the first token of a text that can't stand there, or of the end of the text
-abbrev pub misplaced : (text : List ℕ) → TokenError
+abbrev pub misplaced : (text_with_wrong_token_next : List ℕ) → TokenError
 misplaced text = record { kind = kinds.Syntax; left = octets_left_at_token text }
 
 -- the refusal if a text goes on with something that is no token
-abbrev pub no_token : (text : List ℕ) → TokenError
+abbrev pub no_token : (text_with_no_token_next : List ℕ) → TokenError
 no_token text = record { kind = kinds.Token; left = octets_left_at_token text }
 
 -- ---- The value of a token.
@@ -48,7 +48,7 @@ is_the_mark m (number n) = false
 is_the_mark m (negative n) = false
 is_the_mark m (repository r) = false
 
-abbrev pub is_the_word : (name : List ℕ) (token : Token) → Bool
+abbrev pub is_the_word : (wanted_word : List ℕ) (token : Token) → Bool
 is_the_word name (word v) = bytes_eq v name
 is_the_word name (number n) = false
 is_the_word name (negative n) = false
@@ -57,31 +57,31 @@ is_the_word name (mark m) = false
 
 -- ---- The next token.
 
-abbrev pub found_or : {X : Type 0} (refusal : TokenError) (found : Option X) (rest : List ℕ) →
-    Result (X × List ℕ) TokenError
+abbrev pub found_or : {X : Type 0} (refusal : TokenError) (found : Option X)
+    (text_behind : List ℕ) → Result (X × List ℕ) TokenError
 found_or refusal None rest = Err refusal
 found_or refusal (Some x) rest = Ok (x, rest)
 
-abbrev pub token_passes : (is : Token → Bool) (token : Option Token) → Bool
+abbrev pub token_passes : (test : Token → Bool) (token : Option Token) → Bool
 token_passes is None = false
 token_passes is (Some t) = is t
 
 -- the value of the next token, and what follows it
-unfoldable pub next_as : {X : Type 0} (tells : Token → Option X) (text : List ℕ) →
+unfoldable pub next_as : {X : Type 0} (value_of_token : Token → Option X) (text : List ℕ) →
     Result (X × List ℕ) TokenError
 next_as tells text = do
   t ← next text
   found_or (misplaced text) (option_and_then tells t.0) t.1
 
 -- what follows the next token, which must pass the test
-unfoldable pub next_is : (is : Token → Bool) (text : List ℕ) → Result (List ℕ) TokenError
+unfoldable pub next_is : (test : Token → Bool) (text : List ℕ) → Result (List ℕ) TokenError
 next_is is text = do
   t ← next text
   if token_passes is t.0 then Ok t.1 else Err (misplaced text)
 
 -- what follows the next token, if that passes the test; nothing if it is another token, or the text
 -- ends
-unfoldable pub next_if : (is : Token → Bool) (text : List ℕ) → Result (Option (List ℕ)) TokenError
+unfoldable pub next_if : (test : Token → Bool) (text : List ℕ) → Result (Option (List ℕ)) TokenError
 next_if is text = do
   t ← next text
   Ok (if token_passes is t.0 then Some t.1 else None)
@@ -98,16 +98,16 @@ number_at text = next_as as_number text
 abbrev pub repository_at : (text : List ℕ) → Result (List ℕ × List ℕ) TokenError
 repository_at text = next_as as_repository text
 
-abbrev pub mark_at : (m : Mark) (text : List ℕ) → Result (List ℕ) TokenError
+abbrev pub mark_at : (wanted_mark : Mark) (text : List ℕ) → Result (List ℕ) TokenError
 mark_at m text = next_is (is_the_mark m) text
 
-abbrev pub keyword_at : (name text : List ℕ) → Result (List ℕ) TokenError
+abbrev pub keyword_at : (wanted_word text : List ℕ) → Result (List ℕ) TokenError
 keyword_at name text = next_is (is_the_word name) text
 
-abbrev pub mark_if : (m : Mark) (text : List ℕ) → Result (Option (List ℕ)) TokenError
+abbrev pub mark_if : (wanted_mark : Mark) (text : List ℕ) → Result (Option (List ℕ)) TokenError
 mark_if m text = next_if (is_the_mark m) text
 
-abbrev pub keyword_if : (name text : List ℕ) → Result (Option (List ℕ)) TokenError
+abbrev pub keyword_if : (wanted_word text : List ℕ) → Result (Option (List ℕ)) TokenError
 keyword_if name text = next_if (is_the_word name) text
 
 abbrev pub is_end : (token : Option Token) → Bool

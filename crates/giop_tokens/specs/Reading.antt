@@ -10,7 +10,7 @@ abbrev pub ◌>>=◌ : {A B : Type 0} → Result A TokenError → (A → Result 
 (Err e) >>= f = Err e
 
 -- what a function returned, seen through a view, is what the reading gives; so is a refusal
-abbrev pub Gives : {X Y : Type 0} (view : X → Y) (result : Result X TokenError)
-    (read : Result Y TokenError) → Type 0
+abbrev pub Gives : {X Y : Type 0} (view : X → Y) (code_result : Result X TokenError)
+    (expected_reading : Result Y TokenError) → Type 0
 Gives view (Ok x) read = read ≡ Ok (view x)
 Gives view (Err e) read = read ≡ Err e

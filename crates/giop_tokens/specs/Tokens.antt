@@ -34,25 +34,25 @@ is_word_octet octet =
     || octet == 95
 
 -- an octet that may stand in a repository id: 21 to 7e, but not "
-abbrev pub is_id_octet : (octet : ℕ) → Bool
+abbrev pub is_id_octet : (octet_of_repository_id : ℕ) → Bool
 is_id_octet octet = nat_le 33 octet && nat_le octet 126 && not (octet == 34)
 
 -- ---- White space and comments.
 
 -- Whether a comment goes on after an octet, by the octet that follows it. There is no answer if a
 -- token begins at the octet. A comment goes on to the end of its line.
-abbrev pub gap_step : (comment : Bool) (octet after : ℕ) → Option Bool
+abbrev pub gap_step : (in_comment : Bool) (octet next_octet : ℕ) → Option Bool
 gap_step true octet after = Some (not (octet == 10))
 gap_step false octet after = if octet == 47 && after == 47 then Some true else
     (if is_white_octet octet then Some false else None)
 
-abbrev pub here_or_on : (comment : Option Bool) (here : List ℕ) (going_on : Bool → List ℕ) →
-    List ℕ
+abbrev pub here_or_on : (in_comment_after : Option Bool) (text_here : List ℕ)
+    (text_going_on : Bool → List ℕ) → List ℕ
 here_or_on None here going_on = here
 here_or_on (Some comment) here going_on = going_on comment
 
 -- what follows after white space and comments; the flag tells whether a comment has begun
-unfoldable pub after_gap : (comment : Bool) (text : List ℕ) → List ℕ
+unfoldable pub after_gap : (in_comment : Bool) (text : List ℕ) → List ℕ
 after_gap comment [] = []
 after_gap comment (b ∷ bs) = here_or_on (gap_step comment b (slice_index bs 0)) (b ∷ bs)
     (λ more. after_gap more bs)
@@ -64,10 +64,10 @@ octets_left_at_token text = length (after_gap false text)
 -- ---- The first token.
 
 -- the longest run of octets of a kind at the front of a text, and what follows it
-abbrev pub front_run : (is : ℕ → Bool) (text : List ℕ) → List ℕ
+abbrev pub front_run : (test : ℕ → Bool) (text : List ℕ) → List ℕ
 front_run is text = take (prefix_len is text) text
 
-abbrev pub after_run : (is : ℕ → Bool) (text : List ℕ) → List ℕ
+abbrev pub after_run : (test : ℕ → Bool) (text : List ℕ) → List ℕ
 after_run is text = drop (prefix_len is text) text
 
 -- one to 20 digits and nothing else, without a leading zero, of a number of at most 2^64 - 1
@@ -80,27 +80,27 @@ abbrev pub number_of : (digits : List ℕ) → Option ℕ
 number_of digits = if is_number digits then Some (digits_value 10 digits) else None
 
 -- the token that a run of word octets is: a number if it begins with a digit, else a word
-abbrev pub word_token : (name : List ℕ) → Option Token
+abbrev pub word_token : (word_or_number_octets : List ℕ) → Option Token
 word_token name =
     if is_digit (slice_index name 0) then option_map number (number_of name) else Some (word name)
 
-abbrev pub negative_token : (size : Option ℕ) → Option Token
+abbrev pub negative_token : (absolute_value : Option ℕ) → Option Token
 negative_token None = None
 negative_token (Some size) = if size == 0 then None else Some (negative size)
 
 -- the repository id of these octets, 1 to 128 of them, if a quotation mark follows
-abbrev pub repository_token : (id after : List ℕ) → Option Token
+abbrev pub repository_token : (id_octets text_after : List ℕ) → Option Token
 repository_token id after = if nat_le 1 (length id) && nat_le (length id) 128
     && slice_index after 0 == 34 then Some (repository id) else None
 
 -- a token and what follows it, or the refusal at this place if there is no token
-abbrev pub token_or_refusal : (text : List ℕ) (token : Option Token) (rest : List ℕ) →
-    Result (Option Token × List ℕ) TokenError
+abbrev pub token_or_refusal : (text_from_token : List ℕ) (token : Option Token)
+    (text_behind : List ℕ) → Result (Option Token × List ℕ) TokenError
 token_or_refusal text None rest = Err (record { kind = kinds.Token; left = length text })
 token_or_refusal text (Some t) rest = Ok (Some t, rest)
 
 -- the token that a text begins with, and what follows it; none if the text is empty
-unfoldable pub first : (text : List ℕ) → Result (Option Token × List ℕ) TokenError
+unfoldable pub first : (text_without_gap : List ℕ) → Result (Option Token × List ℕ) TokenError
 first [] = Ok (None, [])
 first (b ∷ bs) =
     if is_word_octet b then token_or_refusal (b ∷ bs)
@@ -116,7 +116,7 @@ first (b ∷ bs) =
 
 -- The first token of a text, after white space and comments, and what follows it; none at the end
 -- of the text.
-unfoldable pub next : (text : List ℕ) → Result (Option Token × List ℕ) TokenError
+unfoldable pub next : (text_with_gap : List ℕ) → Result (Option Token × List ℕ) TokenError
 next text = first (after_gap false text)
 
 -- ---- The text.

@@ -2,7 +2,8 @@
 
 use crate::input::Input;
 use giop_lines::read;
-use giop_run::{Flush, Source};
+use giop_print::Flush;
+use giop_run::Source;
 use giop_view_parts::{View, ViewError};
 use std::alloc::Global;
 

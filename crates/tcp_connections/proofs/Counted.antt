@@ -1,10 +1,11 @@
--- A segment counts once, whatever it does.
-use Rattle.std.proofs.Common.{◌≡◌, ℕ, ◌+◌, Bool, true, false, cond, length, Option, Some, None, refl, ◌∙◌, ap, inl, inr}
+-- A segment counts once, whatever it does, and the number of slots stays.
+use Rattle.std.proofs.Common.{◌≡◌, ℕ, ◌+◌, false, List, length, set, Option, Some, None, refl, ◌∙◌, ap, inl, inr, length-set}
 use Rattle.std.proofs.lemmas.Bool.{cases_Bool, cases_lt}
 use Rattle.tcp_segment.specs.Segments.{Segment}
 use Rattle.tcp_flow.specs.declared.flow.CloseCause.{CloseCause}
 use Rattle.tcp_flow.specs.declared.flow.CloseCause.TheVariants.{Reset, Syn, Room}
 use Rattle.tcp_flow.specs.Flow.{Reader}
+use Rattle.tcp_flow.proofs.Preserving.{either}
 use Rattle.tcp_streams.specs.declared.pair.EndpointPair.{EndpointPair}
 use Rattle.tcp_streams.specs.declared.pair.Side.{Side}
 use Rattle.tcp_streams.specs.Lives.{lives, elder_side}
@@ -12,72 +13,85 @@ use Rattle.tcp_streams.specs.Pairs.{pair_of, opposite, flow_id}
 use Rattle.tcp_connections.specs.Connections.{State, with_segment, slot_at, flow_forgotten, forgotten, shown, shown_by_age, ended_by, eldest, with_room, next_slot, made_known, index_of, flow_of_side, syn_at, syn_kept, is_syn_to_keep, begins_anew, is_reset, is_first_payload, looked_through, first_number, began, fin_taken, acknowledgement_heard, payload_taken, reset_taken, unknown_taken, known_taken, step}
 use Rattle.tcp_connections.proofs.Cases.{room_there, room_made, step_unknown, step_kept, step_anew, step_known}
 use Rattle.tcp_connections.proofs.Forgotten.{forgot_either}
-use Rattle.tcp_connections.proofs.Kept.{began_kept, looked_kept, heard_kept, acknowledgement_kept, payload_kept, fin_kept}
+use Rattle.tcp_connections.proofs.Kept.{HasSameConnections, began_kept, looked_kept, heard_kept, acknowledgement_kept, payload_kept, fin_kept}
 use Rattle.tcp_connections.proofs.Shown.{shown_kept}
 
-forgot_segments : (w : State) (id : ℕ) (cause : CloseCause) →
-    (flow_forgotten w id cause).segments ≡ w.segments
-forgot_segments w id cause = forgot_either (λ v. v.segments ≡ w.segments) w id cause (λ e. refl)
+-- how many slots there are
+abbrev pub slots_in : (state : State) → ℕ
+slots_in w = length w.lasts
+
+-- how many segments came, and how many slots there are
+abbrev counts : (state : State) → ℕ × ℕ
+counts w = (w.segments, slots_in w)
+
+kept_counts : (v w : State) → HasSameConnections v w → counts w ≡ counts v
+kept_counts v w h =
+    ap (λ (n : ℕ). (n, slots_in w)) h.segments
+    ∙ ap (λ (xs : List ℕ). (v.segments, length xs)) h.lasts
+
+forgot_counts : (w : State) (id : ℕ) (cause : CloseCause) →
+    counts (flow_forgotten w id cause) ≡ counts w
+forgot_counts w id cause = forgot_either (λ v. counts v ≡ counts w) w id cause (λ e. refl)
     (λ s e. refl)
 
-forgotten_segments : (w : State) (index : ℕ) (side : Side) (cause : CloseCause) →
-    (forgotten w index side cause).segments ≡ w.segments
+shown_counts : (F : Reader) (w : State) (index slot : ℕ) (side other : Side)
+    (cause : CloseCause) → counts (forgotten (shown F w slot side) index other cause) ≡ counts w
 unfolding forgotten
-forgotten_segments w index side cause =
-    forgot_segments (flow_forgotten w (flow_id (slot_at w index) side) cause)
-    (flow_id (slot_at w index) (opposite side)) cause
-    ∙ forgot_segments w (flow_id (slot_at w index) side) cause
+shown_counts F w index slot side other cause =
+    let v : State = shown F w slot side in
+    forgot_counts (flow_forgotten v (flow_id (slot_at v index) other) cause)
+    (flow_id (slot_at v index) (opposite other)) cause
+    ∙ forgot_counts v (flow_id (slot_at v index) other) cause
+    ∙ kept_counts w v (shown_kept F w slot side)
 
-shown_segments : (F : Reader) (w : State) (index slot : ℕ) (side other : Side)
-    (cause : CloseCause) → (forgotten (shown F w slot side) index other cause).segments ≡ w.segments
-shown_segments F w index slot side other cause =
-    forgotten_segments (shown F w slot side) index other cause ∙ (shown_kept F w slot side).segments
-
-room_segments : (F : Reader) (w : State) → (with_room F w).segments ≡ w.segments
-room_segments F w =
+room_counts : (F : Reader) (w : State) → counts (with_room F w) ≡ counts w
+room_counts F w =
     elim (cases_lt (length w.known) (length w.lasts)) [
-      | inl l ↦ ap (λ (v : State). v.segments) (room_there F w l)
+      | inl l ↦ ap counts (room_there F w l)
       | inr g ↦
           (let index : ℕ = eldest w (length w.known) in
           let slot : ℕ = slot_at w index in
           let v : State = shown_by_age F w slot in
-          ap (λ (v : State). v.segments) (room_made F w g)
-          ∙ shown_segments F w index slot (elder_side slot (lives w.events))
+          ap counts (room_made F w g)
+          ∙ shown_counts F w index slot (elder_side slot (lives w.events))
           (elder_side slot (lives v.events)) Room)
     ]
 
-made_segments : (w : State) (p : EndpointPair) → (made_known w p).segments ≡ w.segments
+set_counts : (w : State) (slot : ℕ) →
+    ◌≡◌ {A = ℕ × ℕ} (w.segments, length (set w.lasts slot w.segments)) (counts w)
+set_counts w slot = ap (λ (n : ℕ). (w.segments, n)) (length-set w.lasts slot w.segments)
+
+made_counts : (w : State) (p : EndpointPair) → counts (made_known w p) ≡ counts w
 unfolding made_known
-made_segments w p = refl
+made_counts w p = set_counts w (next_slot w.free)
 
-either : (n : ℕ) (b : Bool) (v w : State) → v.segments ≡ n → w.segments ≡ n →
-    (cond b v w).segments ≡ n
-either n true v w h k = h
-either n false v w h k = k
-
-unknown_segments : (F : Reader) (w : State) (s : Segment) →
-    (unknown_taken F w s).segments ≡ w.segments
+unknown_counts : (F : Reader) (w : State) (s : Segment) →
+    counts (unknown_taken F w s) ≡ counts w
 unfolding unknown_taken
-unknown_segments F w s =
+unknown_counts F w s =
     let v : State = with_room F w in
     let m : State = made_known v (pair_of s.flow).0 in
     let id : ℕ = flow_id (next_slot v.free) (pair_of s.flow).1 in
     let b : State = began F m id (first_number s) s.payload in
-    either w.segments (is_first_payload w.ports s) (fin_taken F b id s) (looked_through w s)
-    ((fin_kept F b id s).segments ∙ (began_kept F m id (first_number s) s.payload).segments
-    ∙ made_segments v (pair_of s.flow).0 ∙ room_segments F w) (looked_kept w s).segments
+    either (λ (u : State). counts u ≡ counts w) (is_first_payload w.ports s) (fin_taken F b id s)
+    (looked_through w s)
+    (kept_counts b (fin_taken F b id s) (fin_kept F b id s)
+    ∙ kept_counts m b (began_kept F m id (first_number s) s.payload)
+    ∙ made_counts v (pair_of s.flow).0 ∙ room_counts F w)
+    (kept_counts w (looked_through w s) (looked_kept w s))
 
-reset_segments : (F : Reader) (w : State) (index : ℕ) (side : Side) (s : Segment) →
-    (reset_taken F w index side s).segments ≡ w.segments
+reset_counts : (F : Reader) (w : State) (index : ℕ) (side : Side) (s : Segment) →
+    counts (reset_taken F w index side s) ≡ counts w
 unfolding reset_taken
-reset_segments F w index side s =
-    either w.segments (is_reset (flow_of_side w index side) s) (ended_by F w index side Reset) w
-    (shown_segments F w index (slot_at w index) side side Reset) refl
+reset_counts F w index side s =
+    either (λ (u : State). counts u ≡ counts w) (is_reset (flow_of_side w index side) s)
+    (ended_by F w index side Reset) w
+    (shown_counts F w index (slot_at w index) side side Reset) refl
 
-known_segments : (F : Reader) (w : State) (index : ℕ) (s : Segment) →
-    (known_taken F w index s).segments ≡ w.segments
+known_counts : (F : Reader) (w : State) (index : ℕ) (s : Segment) →
+    counts (known_taken F w index s) ≡ counts w
 unfolding known_taken
-known_segments F w index s =
+known_counts F w index s =
     let side : Side = (pair_of s.flow).1 in
     let slot : ℕ = slot_at w index in
     let id : ℕ = flow_id slot side in
@@ -85,36 +99,43 @@ known_segments F w index s =
     let told : State = acknowledgement_heard F seen (flow_id slot (opposite side)) s in
     let paid : State = payload_taken F told id s in
     let ended : State = fin_taken F paid id s in
-    (heard_kept F (reset_taken F ended index side s) id None false).segments
-    ∙ reset_segments F ended index side s ∙ (fin_kept F paid id s).segments
-    ∙ (payload_kept F told id s).segments
-    ∙ (acknowledgement_kept F seen (flow_id slot (opposite side)) s).segments
+    let reset : State = reset_taken F ended index side s in
+    kept_counts reset (known_taken F w index s) (heard_kept F reset id None false)
+    ∙ reset_counts F ended index side s ∙ kept_counts paid ended (fin_kept F paid id s)
+    ∙ kept_counts told paid (payload_kept F told id s)
+    ∙ kept_counts seen told (acknowledgement_kept F seen (flow_id slot (opposite side)) s)
+    ∙ set_counts w slot
 
-kept_segments : (w : State) (slot id : ℕ) (s : Segment) →
-    (syn_kept w slot id s).segments ≡ w.segments
+kept_syn_counts : (w : State) (slot id : ℕ) (s : Segment) → counts (syn_kept w slot id s) ≡ counts w
 unfolding syn_kept
-kept_segments w slot id s = refl
+kept_syn_counts w slot id s = set_counts w slot
 
-pub step_segments : (F : Reader) (w : State) (s : Segment) → (step F w s).segments ≡ w.segments + 1
-step_segments F w s = by (index_of (pair_of s.flow).0 w.known) refl
+step_counts : (F : Reader) (w : State) (s : Segment) →
+    counts (step F w s) ≡ (w.segments + 1, slots_in w)
+step_counts F w s = by (index_of (pair_of s.flow).0 w.known) refl
   where
     by : (o : Option ℕ) → index_of (pair_of s.flow).0 w.known ≡ o →
-        (step F w s).segments ≡ w.segments + 1
-    by None e = ap (λ (v : State). v.segments) (step_unknown F w s e)
-        ∙ unknown_segments F (record w { segments = w.segments + 1 }) s
+        counts (step F w s) ≡ (w.segments + 1, slots_in w)
+    by None e = ap counts (step_unknown F w s e)
+        ∙ unknown_counts F (record w { segments = w.segments + 1 }) s
     by (Some index) e =
         let v : State = record w { segments = w.segments + 1 } in
         let side : Side = (pair_of s.flow).1 in
         let id : ℕ = flow_id (slot_at w index) side in
         elim (cases_Bool (is_syn_to_keep (flow_of_side w index side) s)) [
-          | inl k ↦ ap (λ (u : State). u.segments) (step_kept F w s index e k)
-              ∙ kept_segments v (slot_at w index) id s
+          | inl k ↦ ap counts (step_kept F w s index e k)
+              ∙ kept_syn_counts v (slot_at w index) id s
           | inr k ↦
               elim (cases_Bool (begins_anew (syn_at w (slot_at w index)) id s)) [
-                | inl a ↦ ap (λ (u : State). u.segments) (step_anew F w s index e k a)
-                    ∙ unknown_segments F (ended_by F v index side Syn) s
-                    ∙ shown_segments F v index (slot_at v index) side side Syn
-                | inr a ↦ ap (λ (u : State). u.segments) (step_known F w s index e k a)
-                    ∙ known_segments F v index s
+                | inl a ↦ ap counts (step_anew F w s index e k a)
+                    ∙ unknown_counts F (ended_by F v index side Syn) s
+                    ∙ shown_counts F v index (slot_at v index) side side Syn
+                | inr a ↦ ap counts (step_known F w s index e k a) ∙ known_counts F v index s
               ]
         ]
+
+pub step_segments : (F : Reader) (w : State) (s : Segment) → (step F w s).segments ≡ w.segments + 1
+step_segments F w s = ap (λ (c : ℕ × ℕ). c.0) (step_counts F w s)
+
+pub step_slots : (F : Reader) (w : State) (s : Segment) → slots_in (step F w s) ≡ slots_in w
+step_slots F w s = ap (λ (c : ℕ × ℕ). c.1) (step_counts F w s)

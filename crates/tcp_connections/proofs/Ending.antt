@@ -1,6 +1,6 @@
 -- Gaps in the order of the last streams leave nothing held.
-use Rattle.std.proofs.Common.{◌≡◌, ℕ, zero, suc, ◌+◌, ◌-◌, ◌<◌, ◌≤◌, ◌⊎◌, Bool, true, false, cond, eqb, nat_eq, nat_lt, List, [], ◌∷◌, ◌++◌, length, get_or, Option, Some, None, is_some, refl, sym, ◌∙◌, ap, subst, arith, inl, inr, true≢false, length-append}
-use Rattle.std.specs.List.{AllByRecursion, IsDistinct, remove}
+use Rattle.std.proofs.Common.{◌≡◌, ℕ, zero, suc, ◌+◌, ◌-◌, ◌<◌, ◌≤◌, ◌⊎◌, true, false, cond, eqb, nat_eq, nat_lt, List, [], ◌∷◌, ◌++◌, length, get_or, Option, Some, None, is_some, refl, sym, ◌∙◌, ap, subst, arith, inl, inr, true≢false, length-append}
+use Rattle.std.specs.List.{AllByRecursion, IsDistinct}
 use Rattle.std.proofs.lemmas.Bool.{cases_Bool, cond-true, cond-false, eqb-true, eq-eqb, ne_eqb, lt-ltb, ltb-true, ltb-false}
 use Rattle.std.proofs.lemmas.List.{get_or_append_left}
 use Rattle.std.proofs.lemmas.Map.Keys.{apart_from_distinct}
@@ -9,10 +9,9 @@ use Rattle.tcp_flow.specs.declared.flow.CloseCause.TheVariants.{Fin, Reset, Syn,
 use Rattle.tcp_flow.specs.declared.flow.CloseCause.TheVariants as causes
 use Rattle.tcp_flow.specs.declared.flow.FlowState.{FlowState}
 use Rattle.tcp_waiting.specs.Payload.{Payload, oldest_index, count_of}
-use Rattle.tcp_flow.specs.Flow.{Flow, OfCapture, Reader, without_old_octets, with_event, delivered, looked_through as flow_looked, tail_continued_by, with_arrival_told, taken, at, closed, with_gap, oldest_held, held_by_others, CaptureEvent, Passes, stream_closed, closed_at_fault, started, begun_if_awaited}
+use Rattle.tcp_flow.specs.Flow.{Flow, Delivers, OfCapture, Reader, with_event, closed, with_gap, oldest_held, held_by_others, stream_closed, started, delivered_unchecked, out_of_step, awaiting_stream}
 use Rattle.tcp_flow.specs.State.{state}
-use Rattle.tcp_flow.specs.declared.tail.Tail.{Tail}
-use Rattle.tcp_flow.proofs.Tails.{looked_by}
+use Rattle.tcp_flow.proofs.Events.{EventsKeep, closed_kept, events_keep}
 use Rattle.tcp_flow.proofs.Preserving.{StepsKeep, gap_keeps}
 use Rattle.tcp_flow.proofs.Room.{gap_fewer}
 use Rattle.tcp_flow.proofs.Others.{gap_others, others_all}
@@ -105,10 +104,6 @@ record IsOther (id : ℕ) (others : List ℕ) : Type 0 where
   pub small : id < most_ids
   pub none : AllByRecursion (λ y. eqb id y ≡ false) others
 
-either : {X : Type 0} (P : X → Type 0) (b : Bool) (x y : X) → P x → P y → P (cond b x y)
-either P true x y p q = p
-either P false x y p q = q
-
 -- the flow goes
 gone_so : (id : ℕ) (all xs : List ℕ) → IsOther id (without id all) → StayedRequeuedOrGone id all xs
     →
@@ -133,29 +128,12 @@ closing_tail : (id : ℕ) (all : List ℕ) (g : Flow) (n : ℕ) (cause : CloseCa
 unfolding with_event lives_behind
 closing_tail id all g n cause o t = search (arith, lives_more, ended_so)
 
-closed_tail : (id : ℕ) (all : List ℕ) (g : Flow) (cause : CloseCause) →
-    IsOther id (without id all) → FlowStayedRequeuedOrGone id all g →
-    FlowStayedRequeuedOrGone id all (closed g cause)
-unfolding closed
-closed_tail id all g cause o t = search (arith, either, closing_tail)
-
-checked_tail : (id : ℕ) (all : List ℕ) (g : Flow) (r : Option ℕ) → IsOther id (without id all) →
-    FlowStayedRequeuedOrGone id all g → FlowStayedRequeuedOrGone id all (closed_at_fault g r)
-unfolding closed_at_fault
-checked_tail id all g None o t = t
-checked_tail id all g (Some at) o t = search (arith, closing_tail)
-
-capture_tail : (id : ℕ) (all : List ℕ) (g : Flow) (e : CaptureEvent) →
-    FlowStayedRequeuedOrGone id all g →
-    FlowStayedRequeuedOrGone id all (with_event g (OfCapture e))
-unfolding with_event lives_behind
-capture_tail id all g e t = search (arith, lives_more)
-
-delivered_tail : (F : Reader) (id : ℕ) (all : List ℕ) (g : Flow) (p : Payload) →
-    IsOther id (without id all) → FlowStayedRequeuedOrGone id all g →
-    FlowStayedRequeuedOrGone id all (delivered F g p)
-unfolding delivered with_event lives_behind
-delivered_tail F id all g p o t = search (arith, lives_more, checked_tail)
+quiet_tail : (id : ℕ) (all : List ℕ) (g h : Flow) → h.id ≡ g.id → lives h.events ≡ lives g.events →
+    FlowStayedRequeuedOrGone id all g → FlowStayedRequeuedOrGone id all h
+quiet_tail id all g h same more t = record {
+  same = same ∙ t.same;
+  tail = subst (StayedRequeuedOrGone id all) (sym more) t.tail;
+}
 
 -- a stream of the flow begins, and the flow becomes the last
 begun_so : (id : ℕ) (all xs : List ℕ) → IsOther id (without id all) → StayedRequeuedOrGone id all
@@ -169,53 +147,28 @@ started_tail : (id : ℕ) (all : List ℕ) (g : Flow) (n : ℕ) → IsOther id (
 unfolding with_event lives_behind
 started_tail id all g n o t = search (arith, lives_more, begun_so)
 
-resumed_tail : (id : ℕ) (all : List ℕ) (g : Flow) → IsOther id (without id all) →
-    FlowStayedRequeuedOrGone id all g → FlowStayedRequeuedOrGone id all (begun_if_awaited g)
-resumed_tail id all g o t = search (arith, either, started_tail)
-
-looked_tail : (F : Reader) (id : ℕ) (all : List ℕ) (g : Flow) (q : Payload) (r : Option Tail) →
-    IsOther id (without id all) → FlowStayedRequeuedOrGone id all g →
-    FlowStayedRequeuedOrGone id all (flow_looked F g q r)
-looked_tail F id all g q r o t =
-    looked_by F (FlowStayedRequeuedOrGone id all) (λ g p t. delivered_tail F id all g p o t)
-    (λ g n t. started_tail id all g n o t)
-    (λ g u xs t. capture_tail id all (record g { tail = u }) (Passes xs)
-    (record { same = t.same; tail = t.tail })) g q r t
-
-from_tail : (id : ℕ) (all : List ℕ) (g : Flow) (p : Payload) → FlowStayedRequeuedOrGone id all g →
-    FlowStayedRequeuedOrGone id all (with_arrival_told g p)
-unfolding with_arrival_told
-from_tail id all g p t = search (arith, capture_tail)
-
-taken_tail : (F : Reader) (id : ℕ) (all : List ℕ) (g : Flow) (p : Payload) →
-    IsOther id (without id all) → FlowStayedRequeuedOrGone id all g →
-    FlowStayedRequeuedOrGone id all (taken F g p)
-unfolding taken
-taken_tail F id all g p o t =
-    let q : Payload = without_old_octets g.next (is_some g.live) p in
-    let h : Flow = with_arrival_told g p in
-    let u : FlowStayedRequeuedOrGone id all h = from_tail id all g p t in
-    let d : Flow = delivered F (begun_if_awaited h) q in
-    let r : Option Tail = tail_continued_by g.tail q.number q.octets in
-    let b : Flow = flow_looked F h q r in
-    either (FlowStayedRequeuedOrGone id all) (nat_eq (length q.octets) 0) g
-    (cond (is_some g.live) d b) t
-    (either (FlowStayedRequeuedOrGone id all) (is_some g.live) d b
-    (delivered_tail F id all (begun_if_awaited h) q o (resumed_tail id all h o u))
-    (looked_tail F id all h q r o u))
+tail_kept : (id : ℕ) (all : List ℕ) → IsOther id (without id all) →
+    EventsKeep (FlowStayedRequeuedOrGone id all)
+unfolding with_event lives_behind
+tail_kept id all o = record {
+  tells = λ g e t. quiet_tail id all g (with_event g (OfCapture e)) refl
+      (lives_more [] g.events (OfCapture e)) t;
+  begins = λ g n t. started_tail id all g n o t;
+  delivers = λ g p t. quiet_tail id all g (delivered_unchecked g p) refl
+      (lives_more [] g.events (Delivers g.id p.octets)) t;
+  closes = λ g n cause t. closing_tail id all g n cause o t;
+  idles = λ g t. quiet_tail id all g (out_of_step g) refl refl t;
+  tails = λ g u t. quiet_tail id all g (record g { tail = u }) refl refl t;
+}
 
 tail_keeps : (F : Reader) (id : ℕ) (all : List ℕ) → IsOther id (without id all) →
     StepsKeep F (FlowStayedRequeuedOrGone id all)
 tail_keeps F id all o =
-    record {
-      takes = λ f i e d t. taken_tail F id all (record f { held = remove f.held i }) (at f i) o
-          (record { same = t.same; tail = t.tail });
-      closes = λ f cause t. closed_tail id all f cause o t;
-      waits = λ f count live t. (let c : FlowStayedRequeuedOrGone id all (closed f Gap) =
-          closed_tail id all f Gap o t
-          in record { same = c.same; tail = c.tail });
-      fins = λ f n t. record { same = t.same; tail = t.tail };
-    }
+    let k : EventsKeep (FlowStayedRequeuedOrGone id all) = tail_kept id all o in
+    events_keep (FlowStayedRequeuedOrGone id all) k F
+    (λ g count live t. quiet_tail id all (closed g Gap) (awaiting_stream g count) refl refl
+    (closed_kept (FlowStayedRequeuedOrGone id all) k g Gap t))
+    (λ g ps fin t. quiet_tail id all g (record g { held = ps; fin = fin }) refl refl t)
 
 gap_tail : (F : Reader) (id : ℕ) (f : Flow) → id < most_ids → f.id ≡ id →
     FlowStayedRequeuedOrGone id (lives f.events) (with_gap F f)

@@ -17,7 +17,7 @@ use Rattle.tcp_connections.specs.Forgetting.{MakesRoom, MakesWay, BeginsAnew, Is
 use Rattle.tcp_connections.specs.State.{IsSound}
 use Rattle.tcp_connections.proofs.Cases.{no_reset, a_reset, unknown_nothing, unknown_first, room_there, step_unknown, step_kept, step_anew, step_known}
 use Rattle.tcp_connections.proofs.Eldest.{eldest_makes_room}
-use Rattle.tcp_connections.proofs.Gapless.{index_within, start_at, after_at}
+use Rattle.tcp_connections.proofs.Gapless.{index_within, no_more, after_all}
 use Rattle.tcp_connections.proofs.Kept.{looked_kept, began_kept, heard_kept, acknowledgement_kept, payload_kept, fin_kept}
 use Rattle.tcp_connections.proofs.OwnersKnown.{equal_of}
 use Rattle.tcp_connections.proofs.SamePairs.{same_pair_of}
@@ -299,7 +299,6 @@ pub after_gone : (F : Reader) (ports : List ℕ) (blocks most : ℕ) (segments :
 after_gone F ports blocks most segments s p some few k e =
     let w : State = after F (none_known ports blocks most []) segments in
     step_gone F w s p
-    (after_at [] segments F (none_known ports blocks most [])
-    (start_at ports blocks most some few)).sound k
+    (no_more segments w (after_all F ports blocks most segments some few)).sound k
     (sym (ap (λ (u : State). index_of p u.known)
     (after_last F (none_known ports blocks most []) segments s)) ∙ e)

@@ -1,9 +1,10 @@
 -- A step of a flow leaves which connections are known, and their slots.
-use Rattle.std.proofs.Common.{◌≡◌, ℕ, ◌/◌, Bool, true, false, cond, nat_lt, List, length, Option, Some, None, refl, sym, ◌∙◌, subst, arith, length-set}
+use Rattle.std.proofs.Common.{◌≡◌, ℕ, ◌/◌, Bool, cond, nat_lt, List, length, Option, Some, None, refl, sym, ◌∙◌, subst, arith, length-set}
 use Rattle.tcp_segment.specs.Segments.{Segment}
 use Rattle.tcp_flow.specs.declared.flow.FlowState.{FlowState}
 use Rattle.tcp_flow.specs.Flow.{Flow, Passes, Reader, Arrival, Octets, End, with_gap, step as flow_step, first_payload}
 use Rattle.tcp_flow.specs.State.{state}
+use Rattle.tcp_flow.proofs.Preserving.{either}
 use Rattle.tcp_streams.specs.declared.pair.Side.{Side}
 use Rattle.tcp_streams.specs.declared.pair.Side.TheVariants.{FromLesser, FromGreater}
 use Rattle.tcp_streams.specs.Pairs.{flow_id}
@@ -56,11 +57,6 @@ unfolding began
 began_kept F w id number octets = with_flow_kept w id
     (first_payload F id number octets w.arrival w.held w.events)
 
-either : (w : State) (b : Bool) (u v : State) → HasSameConnections w u → HasSameConnections w v →
-    HasSameConnections w (cond b u v)
-either w true u v h k = h
-either w false u v h k = k
-
 pub heard_kept : (F : Reader) (w : State) (id : ℕ) (acknowledged : Option ℕ) (answers : Bool) →
     HasSameConnections w (heard F w id acknowledged answers)
 unfolding heard
@@ -72,7 +68,7 @@ acknowledgement_kept F w id s = heard_kept F w id s.acknowledgement (nat_lt 0 (l
 
 pub looked_kept : (w : State) (s : Segment) → HasSameConnections w (looked_through w s)
 unfolding looked_through
-looked_kept w s = either w (is_looked_through w.ports s)
+looked_kept w s = either (HasSameConnections w) (is_looked_through w.ports s)
     (with_capture_event w (Passes s.payload)) w (record {
       known = refl;
       slots = refl;
@@ -111,11 +107,12 @@ payload_kept F w id s =
       | Some f ↦ cond s.reset w
           (within_pool F (arrived F w id (Octets (first_number s) s.payload w.arrival)))
     ])) [
-      | None ↦ either w (is_first_payload w.ports s) (began F w id (first_number s) s.payload)
+      | None ↦ either (HasSameConnections w) (is_first_payload w.ports s)
+          (began F w id (first_number s) s.payload)
           (looked_through w s) (began_kept F w id (first_number s) s.payload) (looked_kept w s)
       | Some f ↦
           (let v : State = arrived F w id (Octets (first_number s) s.payload w.arrival) in
-          either w s.reset w (within_pool F v) (kept_self w)
+          either (HasSameConnections w) s.reset w (within_pool F v) (kept_self w)
           (relieved_keep F (HasSameConnections w) (gapped_kept F w) (length v.held) v
           (arrived_kept F w id (Octets (first_number s) s.payload w.arrival))))
     ]
@@ -123,7 +120,7 @@ payload_kept F w id s =
 pub fin_kept : (F : Reader) (w : State) (id : ℕ) (s : Segment) →
     HasSameConnections w (fin_taken F w id s)
 unfolding fin_taken
-fin_kept F w id s = either w s.fin (arrived F w id (End (number_behind s))) w
+fin_kept F w id s = either (HasSameConnections w) s.fin (arrived F w id (End (number_behind s))) w
     (arrived_kept F w id (End (number_behind s))) (kept_self w)
 
 -- the slot of an id

@@ -6,7 +6,7 @@ pub mod Closing
 pub mod Counted
 pub mod Eldest
 pub mod Ending
-pub mod Following
+pub mod FollowOwned
 pub mod Forgotten
 pub mod Gapless
 pub mod Gone
@@ -16,8 +16,6 @@ pub mod Kept
 pub mod Living
 pub mod OwnFlows
 pub mod Owners
-pub mod OwnersEnd
-pub mod OwnersGrown
 pub mod OwnersKnown
 pub mod Ranked
 pub mod Repeated
@@ -26,6 +24,7 @@ pub mod Roomy
 pub mod SamePairs
 pub mod Search
 pub mod SegmentParts
+pub mod Settled
 pub mod Shown
 pub mod Sound
 pub mod Start

@@ -1,17 +1,15 @@
 -- A flow with a live stream is one of those that the listener was told to have live streams.
-use Rattle.std.proofs.Common.{◌≡◌, ℕ, ◌+◌, ◌<◌, Bool, true, false, cond, nat_eq, nat_lt, not, ◌&&◌, ◌||◌, List, [], ◌∷◌, ◌++◌, length, Option, Some, None, is_some, refl, sym, ◌∙◌, ap, subst, arith, inl, inr, true≢false}
-use Rattle.std.specs.List.{remove}
+use Rattle.std.proofs.Common.{◌≡◌, ℕ, ◌+◌, ◌<◌, Bool, true, false, cond, nat_eq, nat_lt, not, List, [], ◌∷◌, ◌++◌, length, Some, is_some, refl, sym, ◌∙◌, ap, subst, arith, inl, inr, true≢false}
 use Rattle.std.proofs.lemmas.Bool.{and_parts, cases_Bool, cond-true, cond-false, eqb-true, ne_eqb, lt-ltb}
 use Rattle.tcp_flow.specs.declared.flow.CloseCause.{CloseCause}
 use Rattle.tcp_flow.specs.declared.flow.CloseCause.TheVariants.{Fin, Reset, Syn, Fault, Gap, Room}
 use Rattle.tcp_flow.specs.declared.flow.CloseCause.TheVariants as causes
-use Rattle.tcp_waiting.specs.Numbers.{age, onward}
+use Rattle.tcp_waiting.specs.Numbers.{onward}
 use Rattle.tcp_waiting.specs.declared.arrival.Arrival as origin
-use Rattle.tcp_waiting.specs.Payload.{Payload, payload, holds_as_long, put}
-use Rattle.tcp_flow.specs.Flow.{Flow, Event, Opens, Begins, Delivers, Closes, OfCapture, ComesFrom, Reader, Arrival, Octets, End, Hears, without_old_octets, with_event, delivered, looked_through as flow_looked, tail_continued_by, with_arrival_told, taken, at, closed, with_held, gone_on_with_held, within_window, payload_came, fin_came, with_gap, fresh, first_payload, step, CaptureEvent, Passes, stream_closed, closed_at_fault, number_after_octet, delivered_unchecked, start_at, started, begun_if_awaited, awaiting_stream, out_of_step, lives as has_stream}
-use Rattle.tcp_flow.specs.declared.tail.Tail.{Tail}
-use Rattle.tcp_flow.proofs.Tails.{looked_by}
-use Rattle.tcp_flow.proofs.Preserving.{StepsKeep, gone_on_keeps, window_keeps, heard_keeps, gap_keeps}
+use Rattle.tcp_waiting.specs.Payload.{Payload, payload}
+use Rattle.tcp_flow.specs.Flow.{Flow, Event, Opens, Begins, Delivers, Closes, OfCapture, Reader, Arrival, Octets, End, Hears, without_old_octets, with_event, closed, with_held, payload_came, with_gap, fresh, first_payload, step, stream_closed, delivered_unchecked, start_at, started, awaiting_stream, out_of_step, lives as has_stream}
+use Rattle.tcp_flow.proofs.Events.{EventsKeep, events_keep}
+use Rattle.tcp_flow.proofs.Preserving.{either, StepsKeep, came_keeps, fin_keeps, heard_keeps, gap_keeps}
 use Rattle.tcp_streams.specs.Lives.{lives, lives_from, lives_behind, with_begun, with_closed, without, most_ids, AreIds}
 use Rattle.tcp_streams.proofs.Ids.{none_ids, begun_ids, ended_ids}
 use Rattle.tcp_streams.proofs.Order.{lives_more}
@@ -84,10 +82,6 @@ pub record MovesOnlyOwn (id : ℕ) (before : List Event) (flow : Flow) : Type 0 
   pub beside : (j : ℕ) → (j ≡ id → ⊥) → times j (lives flow.events) ≡ times j (lives before)
   pub order : KeepsOrderBut id (lives before) (lives flow.events)
 
-either : {X : Type 0} (P : X → Type 0) (b : Bool) (x y : X) → P x → P y → P (cond b x y)
-either P true x y p q = p
-either P false x y p q = q
-
 -- after a close, other flows are there as often as before
 pub times_ended : (n j : ℕ) (cause : CloseCause) (xs : List ℕ) → (j ≡ n → ⊥) →
     times j (with_closed n cause xs) ≡ times j xs
@@ -147,39 +141,16 @@ awaiting_turn id es g count live t =
       order = subst (KeepsOrderBut id (lives es)) (sym more) t.order;
     })
 
-checked_turn : (id : ℕ) (es : List Event) (g : Flow) (r : Option ℕ) →
-    MovesOnlyOwn id es g → MovesOnlyOwn id es (closed_at_fault g r)
-unfolding closed_at_fault
-checked_turn id es g None t = t
-checked_turn id es g (Some at) t = closing_turn id es g (number_after_octet g at) Fault t
-
-capture_turn : (id : ℕ) (es : List Event) (g : Flow) (e : CaptureEvent) →
-    MovesOnlyOwn id es g → MovesOnlyOwn id es (with_event g (OfCapture e))
-unfolding with_event lives_behind
-capture_turn id es g e t =
-    let more = lives_more [] g.events (OfCapture e) in
-    record {
-      same = t.same;
-      own = subst (λ (xs : List ℕ). IsToldIfLive (is_some g.live) (times id xs)) (sym more) t.own;
-      beside = λ j n. ap (times j) more ∙ t.beside j n;
-      order = subst (KeepsOrderBut id (lives es)) (sym more) t.order;
-    }
-
-delivered_turn : (F : Reader) (id : ℕ) (es : List Event) (g : Flow) (p : Payload) →
-    MovesOnlyOwn id es g →
-    MovesOnlyOwn id es (delivered F g p)
-unfolding delivered with_event lives_behind
-delivered_turn F id es g p t =
-    let more = lives_more [] g.events (Delivers g.id p.octets) in
-    let d : Flow = delivered_unchecked g p in
-    let u : MovesOnlyOwn id es d =
-    record {
-      same = t.same;
-      own = subst (λ (xs : List ℕ). IsToldIfLive (is_some g.live) (times id xs)) (sym more) t.own;
-      beside = λ j n. ap (times j) more ∙ t.beside j n;
-      order = subst (KeepsOrderBut id (lives es)) (sym more) t.order;
-    } in
-    checked_turn id es d (F.faulted d.events) u
+-- after what tells of no beginning and no close
+quiet_turn : (id : ℕ) (es : List Event) (g h : Flow) → h.id ≡ g.id → h.live ≡ g.live →
+    lives h.events ≡ lives g.events → MovesOnlyOwn id es g → MovesOnlyOwn id es h
+quiet_turn id es g h same live more t = record {
+  same = same ∙ t.same;
+  own = λ e. subst (λ (xs : List ℕ). 0 < times id xs) (sym more)
+      (t.own (sym (ap is_some live) ∙ e));
+  beside = λ j n. ap (times j) more ∙ t.beside j n;
+  order = subst (KeepsOrderBut id (lives es)) (sym more) t.order;
+}
 
 started_turn : (id : ℕ) (es : List Event) (g : Flow) (n : ℕ) → id < most_ids →
     MovesOnlyOwn id es g → MovesOnlyOwn id es (started g n)
@@ -198,78 +169,39 @@ started_turn id es g n l t =
           (order_begun id (lives es) (lives g.events) l t.order);
     }
 
-resumed_turn : (id : ℕ) (es : List Event) (g : Flow) → id < most_ids → MovesOnlyOwn id es g →
-    MovesOnlyOwn id es (begun_if_awaited g)
-resumed_turn id es g l t = either (MovesOnlyOwn id es) g.waits (started g g.next) g
-    (started_turn id es g g.next l t) t
+turn_kept : (id : ℕ) (es : List Event) → id < most_ids → EventsKeep (MovesOnlyOwn id es)
+unfolding with_event lives_behind
+turn_kept id es l = record {
+  tells = λ g e t. quiet_turn id es g (with_event g (OfCapture e)) refl refl
+      (lives_more [] g.events (OfCapture e)) t;
+  begins = λ g n t. started_turn id es g n l t;
+  delivers = λ g p t. quiet_turn id es g (delivered_unchecked g p) refl refl
+      (lives_more [] g.events (Delivers g.id p.octets)) t;
+  closes = λ g n cause t. closing_turn id es g n cause t;
+  idles = λ g t. record {
+    same = t.same;
+    own = λ e. absurd (true≢false (sym e));
+    beside = t.beside;
+    order = t.order;
+  };
+  tails = λ g u t. quiet_turn id es g (record g { tail = u }) refl refl refl t;
+}
 
--- looking through a payload tells of no stream of another flow
-looked_turn : (F : Reader) (id : ℕ) (es : List Event) (g : Flow) (q : Payload)
-    (o : Option Tail) → id < most_ids → MovesOnlyOwn id es g →
-    MovesOnlyOwn id es (flow_looked F g q o)
-looked_turn F id es g q o l t =
-    looked_by F (MovesOnlyOwn id es) (λ g p t. delivered_turn F id es g p t)
-    (λ g n t. started_turn id es g n l t)
-    (λ g u xs t. capture_turn id es (record g { tail = u }) (Passes xs)
-    (record { same = t.same; own = t.own; beside = t.beside; order = t.order })) g q o t
-
-from_turn : (id : ℕ) (es : List Event) (g : Flow) (p : Payload) →
-    MovesOnlyOwn id es g → MovesOnlyOwn id es (with_arrival_told g p)
-unfolding with_arrival_told
-from_turn id es g p t = capture_turn id es g (ComesFrom p.arrival) t
-
-taken_turn : (F : Reader) (id : ℕ) (es : List Event) (g : Flow) (p : Payload) →
-    id < most_ids →
-    MovesOnlyOwn id es g → MovesOnlyOwn id es (taken F g p)
-unfolding taken
-taken_turn F id es g p l t =
-    let q : Payload = without_old_octets g.next (is_some g.live) p in
-    let h : Flow = with_arrival_told g p in
-    let u : MovesOnlyOwn id es h = from_turn id es g p t in
-    let d : Flow = delivered F (begun_if_awaited h) q in
-    let o : Option Tail = tail_continued_by g.tail q.number q.octets in
-    let b : Flow = flow_looked F h q o in
-    either (MovesOnlyOwn id es) (nat_eq (length q.octets) 0) g (cond (is_some g.live) d b) t
-    (either (MovesOnlyOwn id es) (is_some g.live) d b (delivered_turn F id es (begun_if_awaited h) q
-    (resumed_turn id es h l u))
-    (looked_turn F id es h q o l u))
-
-pub turn_keeps : (F : Reader) (id : ℕ) (es : List Event) → id < most_ids →
+turn_keeps : (F : Reader) (id : ℕ) (es : List Event) → id < most_ids →
     StepsKeep F (MovesOnlyOwn id es)
 turn_keeps F id es l =
-    record {
-      takes = λ f i e d t. taken_turn F id es (record f { held = remove f.held i }) (at f i) l
-          (record { same = t.same; own = t.own; beside = t.beside; order = t.order });
-      closes = λ f cause t. closed_turn id es f cause t;
-      waits = λ f count live t. awaiting_turn id es f count live t;
-      fins = λ f n t. record { same = t.same; own = t.own; beside = t.beside; order = t.order };
-    }
+    events_keep (MovesOnlyOwn id es) (turn_kept id es l) F
+    (λ g count live t. awaiting_turn id es g count live t)
+    (λ g ps fin t. quiet_turn id es g (record g { held = ps; fin = fin }) refl refl refl t)
 
 came_turn : (F : Reader) (id : ℕ) (es : List Event) (f : Flow) (p : Payload) →
     id < most_ids →
     MovesOnlyOwn id es f → MovesOnlyOwn id es (payload_came F f p)
-unfolding payload_came with_held
+unfolding with_held
 came_turn F id es f p l t =
-    let q : Payload = without_old_octets f.next (is_some f.live) p in
-    let k : StepsKeep F (MovesOnlyOwn id es) = turn_keeps F id es l in
-    let h : Flow = record f { held = put q f.held } in
-    either (MovesOnlyOwn id es) (nat_eq (length q.octets) 0
-    || holds_as_long f.id q.number (length q.octets) f.held) f
-    (within_window F (length f.held + 1) (gone_on_with_held F h)) t
-    (window_keeps F (MovesOnlyOwn id es) k (length f.held + 1) (gone_on_with_held F h)
-    (gone_on_keeps F (MovesOnlyOwn id es) k h
-    (record { same = t.same; own = t.own; beside = t.beside; order = t.order })))
-
-fin_turn : (F : Reader) (id : ℕ) (es : List Event) (f : Flow) (n : ℕ) →
-    id < most_ids →
-    MovesOnlyOwn id es f → MovesOnlyOwn id es (fin_came F f n)
-unfolding fin_came
-fin_turn F id es f n l t =
-    let k : StepsKeep F (MovesOnlyOwn id es) = turn_keeps F id es l in
-    either (MovesOnlyOwn id es) (is_some f.live && nat_eq (age f.next n) 0)
-    (gone_on_with_held F (record f { fin = Some n })) f
-    (gone_on_keeps F (MovesOnlyOwn id es) k (record f { fin = Some n })
-    (record { same = t.same; own = t.own; beside = t.beside; order = t.order })) t
+    let h : Flow = with_held f (without_old_octets f.next (is_some f.live) p) in
+    came_keeps F (MovesOnlyOwn id es) (turn_keeps F id es l) f p t
+    (quiet_turn id es f h refl refl refl t)
 
 pub step_turn : (F : Reader) (id : ℕ) (es : List Event) (f : Flow) (a : Arrival) →
     id < most_ids →
@@ -277,7 +209,8 @@ pub step_turn : (F : Reader) (id : ℕ) (es : List Event) (f : Flow) (a : Arriva
 unfolding step
 step_turn F id es f (Octets n octets arrival) l t = came_turn F id es f
     (payload f.id n octets arrival) l t
-step_turn F id es f (End n) l t = fin_turn F id es f n l t
+step_turn F id es f (End n) l t =
+    fin_keeps F (MovesOnlyOwn id es) (turn_keeps F id es l) f n t
 step_turn F id es f (Hears h) l t =
     heard_keeps F (MovesOnlyOwn id es) (turn_keeps F id es l) (length f.held) h f t
 

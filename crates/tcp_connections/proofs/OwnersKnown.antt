@@ -1,5 +1,5 @@
 -- Which flow each id stands for after connections were forgotten or became known.
-use Rattle.std.proofs.Common.{◌≡◌, ℕ, zero, suc, ◌+◌, ◌*◌, ◌<◌, Bool, true, false, cond, nat_eq, List, [], ◌∷◌, ◌++◌, length, set, get_or, Option, Some, None, is_some, unwrap_or, is_eq, refl, sym, ◌∙◌, ap, subst, arith, inl, inr, true≢false, length-set, Ordering, Less, Equal, Greater, get_or-set_same, get_or-set_other}
+use Rattle.std.proofs.Common.{◌≡◌, ℕ, zero, suc, ◌+◌, ◌*◌, ◌<◌, Bool, true, false, cond, nat_eq, List, [], ◌∷◌, ◌++◌, length, get_or, Option, Some, None, is_some, is_eq, refl, sym, ◌∙◌, ap, subst, arith, inl, inr, true≢false, length-set, Ordering, Less, Equal, Greater}
 use Rattle.std.specs.List.{AllByRecursion, insert, remove}
 use Rattle.std.specs.Option.{option_map}
 use Rattle.std.proofs.lemmas.Bool.{cases_eq, cases_Bool, cond-true, cond-false, ne_eqb, eq-eqb}
@@ -10,8 +10,9 @@ use Rattle.tcp_flow.specs.declared.flow.FlowState.{FlowState}
 use Rattle.tcp_waiting.specs.Payload.{Payload, count_of}
 use Rattle.tcp_flow.specs.Flow.{Flow, Event, Opens, OfCapture, CaptureEvent, lives as has_stream, closed, held_by_others}
 use Rattle.tcp_flow.specs.State.{state}
-use Rattle.tcp_flow.proofs.Truth.{closed_idle}
-use Rattle.tcp_flow.proofs.Told.{closed_told}
+use Rattle.tcp_flow.proofs.Tails.{some_same}
+use Rattle.tcp_flow.proofs.Obeying.{FlowLaw, Obeys, closed_idle, closed_obeys}
+use Rattle.tcp_flow.proofs.Preserving.{either}
 use Rattle.tcp_streams.specs.declared.pair.EndpointPair.{EndpointPair}
 use Rattle.tcp_streams.specs.declared.pair.Side.{Side}
 use Rattle.tcp_streams.specs.declared.pair.Side.TheVariants.{FromLesser, FromGreater}
@@ -20,8 +21,8 @@ use Rattle.tcp_connections.specs.Connections.{State, flow_at, flow_forgotten, in
 use Rattle.tcp_connections.specs.Owned.{Standing, Unopened, Idle, Live, owner, MayCome, AllMayCome}
 use Rattle.tcp_connections.specs.State.{times}
 use Rattle.tcp_connections.proofs.Forgotten.{forgot_either}
-use Rattle.tcp_connections.proofs.OwnFlows.{either, StandsAfter, own_more, other_more, IsPartOfOwn, IsOwn, closed_own}
-use Rattle.tcp_connections.proofs.Owners.{others_stand, standing_after, owner_of, HasNoLiveStream, IsStandingOf, IdsStandForPairs, IsOwned, held_same, theirs_same, owner_stand, own_before, stands_now, AreNumbered}
+use Rattle.tcp_connections.proofs.OwnFlows.{StandsAfter, own_more, other_more, standing_after, owner_of, IsPartOfOwn, standing_of, own_law}
+use Rattle.tcp_connections.proofs.Owners.{owner_is, HasNoLiveStream, IsStandingFlow, IsStandingOf, standing_at, IdsStandForPairs, IsOwned, held_same, theirs_same, owns_set, own_before}
 use Rattle.tcp_connections.proofs.SamePairs.{same_pair_of}
 use Rattle.tcp_connections.proofs.Sound.{some_within}
 
@@ -41,61 +42,28 @@ all_others P id [] h = tt
 all_others P id (p ∷ ps) h = search (arith, either, nat_eq, all_others P id ps h.1)
 
 pub forgot_owns : (segments : List Segment) (w : State) (id : ℕ) (cause : CloseCause) →
-    AreNumbered w → IsOwned segments w → IsOwned segments (flow_forgotten w id cause)
-forgot_owns segments w id cause numbers h =
+    IsOwned segments w → IsOwned segments (flow_forgotten w id cause)
+unfolding own_law
+forgot_owns segments w id cause h =
     forgot_either (IsOwned segments) w id cause (λ e. h)
     (λ s e.
     let f : Flow = state s w.held w.events in
     let c : Flow = closed f cause in
-    let st = subst (IsStandingOf segments (standing_after w.events id)) e (h.flows id) in
-    let o : Endpoints = st.0 in
+    let t : IsStandingFlow segments id (standing_after w.events id) s =
+    standing_at segments w id s e h in
+    let o : Endpoints = t.endpoints in
     let own : owner_of w.events id ≡ Some o =
-    ap owner st.1.0 ∙ owner_stand o (has_stream s.live s.waits) s.next in
-    let same : s.id ≡ id = (numbers id s e).0 in
-    let t : IsOwn segments (owner_of w.events) id o c =
-    closed_own segments (owner_of w.events) id o own f cause
-    (own_before segments w id s o h same (numbers id s e).1 st.1.0 st.1.1) in
+    owner_is segments id (standing_after w.events id) s t in
+    let law : FlowLaw = own_law segments (owner_of w.events) id o own w.events in
+    let u : Obeys law c = closed_obeys law f cause (own_before segments w id s h t own) in
     let idle : standing_after c.events id ≡ Idle o =
-    t.stands.is
-    ∙ cond-false (has_stream c.live c.waits) (Live o c.next) (Idle o) (closed_idle f cause) in
-    let others : (j : ℕ) → (j ≡ id → ⊥) → StandsAfter segments j c.events
-    (standing_after w.events j) =
-    λ j n. (closed_told (λ es. StandsAfter segments j es (standing_after w.events j)) id
-    (others_stand segments j id (standing_after w.events j) n) f cause
-    (record { same = same; told = stands_now segments w j h })).told in
-    let there : (j : ℕ) → owner_of c.events j ≡ owner_of w.events j =
-    λ j.
-    elim (cases_eq j id) [
-      | inl y ↦ ap (owner_of c.events) y ∙ ap owner idle ∙ sym own ∙ ap (owner_of w.events) (sym y)
-      | inr n ↦ ap owner (others j n).is
-    ] in
-    record {
-      come =
-          λ j.
-          elim (cases_eq j id) [
-            | inl y ↦ subst (λ (k : ℕ). AllMayCome segments k Unopened c.events) (sym y)
-                t.stands.come
-            | inr n ↦ (others j n).come
-          ];
-      flows =
-          λ j.
-          elim (cases_eq j id) [
-            | inl y ↦ subst (IsStandingOf segments (standing_after c.events j))
-                (sym (ap (λ (k : ℕ). get_or (set w.flows id None) k None) y
-                ∙ get_or-set_same w.flows id None None (some_within w.flows id s e)))
-                (λ x n l. quiet_idle o x n (sym (ap (standing_after c.events) y ∙ idle) ∙ l))
-            | inr n ↦ subst (IsStandingOf segments (standing_after c.events j))
-                (sym (get_or-set_other w.flows id j None None n))
-                (subst (λ (x : Standing). IsStandingOf segments x (flow_at w j))
-                (sym (others j n).is)
-                (h.flows j))
-          ];
-      held = held_same segments (owner_of w.events) (owner_of c.events)
-          (held_by_others id w.held) there
-          (all_others (IsPartOfOwn segments (owner_of w.events)) id w.held h.held);
-      known = theirs_same (owner_of w.events) (owner_of c.events) w.known w.slots there h.known;
-      beyond = λ j many. there j ∙ h.beyond j many;
-    })
+    u.runs.0.is
+    ∙ ap (standing_of o)
+    (cond-false (has_stream c.live c.waits) (Some c.next) None (closed_idle f cause)) in
+    owns_set segments w id o None (held_by_others id w.held) c.events h
+    (some_within w.flows id s e) own (ap owner idle) u.runs.0.come
+    (λ x n l. quiet_idle o x n (sym idle ∙ l))
+    (all_others (IsPartOfOwn segments (owner_of w.events)) id w.held h.held) u.runs.1)
 
 -- after one of the known connections was forgotten
 pub theirs_without : (owners : ℕ → Option Endpoints) (ps : List EndpointPair) (rs : List ℕ)
@@ -125,11 +93,11 @@ told_owns segments w event h =
     let events : List Event = w.events ++ OfCapture event ∷ [] in
     let all : (j : ℕ) → StandsAfter segments j events (standing_after w.events j) =
     λ j. other_more segments j w.events (standing_after w.events j) (OfCapture event) refl
-    (stands_now segments w j h) in
+    (record { come = h.come j; is = refl }) in
     record {
       come = λ j. (all j).come;
-      flows = λ j. subst (λ (s : Standing). IsStandingOf segments s (flow_at w j)) (sym (all j).is)
-          (h.flows j);
+      flows = λ j. subst (λ (s : Standing). IsStandingOf segments j s (flow_at w j))
+          (sym (all j).is) (h.flows j);
       held = held_same segments (owner_of w.events) (owner_of events) w.held
           (λ j. ap owner (all j).is) h.held;
       known = theirs_same (owner_of w.events) (owner_of events) w.known w.slots
@@ -162,7 +130,8 @@ all_beside P Q id (p ∷ ps) none f h = search (
 pub record AreFlowsOwned (segments : List Segment) (kept : List (Option FlowState))
     (waiting : List Payload) (events : List Event) : Type 0 where
   pub come : (id : ℕ) → AllMayCome segments id Unopened events
-  pub flows : (id : ℕ) → IsStandingOf segments (standing_after events id) (get_or kept id None)
+  pub flows : (id : ℕ) →
+      IsStandingOf segments id (standing_after events id) (get_or kept id None)
   pub held : AllByRecursion (IsPartOfOwn segments (owner_of events)) waiting
 
 -- an id opens, and the others stand for what they did
@@ -178,7 +147,7 @@ pub opens_owns : (segments : List Segment) (flows : List (Option FlowState)) (he
 opens_owns segments flows held events id o e none h =
     let all : List Event = events ++ Opens id o ∷ [] in
     let quiet : HasNoLiveStream (standing_after events id) =
-    subst (IsStandingOf segments (standing_after events id)) e (h.flows id) in
+    subst (IsStandingOf segments id (standing_after events id)) e (h.flows id) in
     let here : StandsAfter segments id all (Idle o) =
     own_more segments id events (standing_after events id) (Opens id o) (eq-eqb id id refl)
     (may_open segments (standing_after events id) id o quiet)
@@ -196,10 +165,10 @@ opens_owns segments flows held events id o e none h =
         flows =
             λ j.
             elim (cases_eq j id) [
-              | inl y ↦ subst (IsStandingOf segments (standing_after all j))
+              | inl y ↦ subst (IsStandingOf segments j (standing_after all j))
                   (sym (ap (λ (k : ℕ). get_or flows k None) y ∙ e))
                   (λ x n l. quiet_idle o x n (sym (ap (standing_after all) y ∙ here.is) ∙ l))
-              | inr n ↦ subst (λ (s : Standing). IsStandingOf segments s (get_or flows j None))
+              | inr n ↦ subst (λ (s : Standing). IsStandingOf segments j s (get_or flows j None))
                   (sym (there j n).is) (h.flows j)
             ];
         held = all_beside (IsPartOfOwn segments (owner_of events))
@@ -268,7 +237,7 @@ theirs_at owners p (q ∷ ps) (r ∷ rs) i side l e h =
     elim (cases_Bool (is_eq (compare_pairs q p))) [
       | inl b ↦
           (let same : q ≡ p = same_pair_of q p (equal_of (compare_pairs q p) b) in
-          let z : 0 ≡ i = some_number 0 i (sym (cond-true (is_eq (compare_pairs q p)) (Some 0)
+          let z : 0 ≡ i = some_same 0 i (sym (cond-true (is_eq (compare_pairs q p)) (Some 0)
           (option_map suc (index_of p ps)) b) ∙ e) in
           subst (λ (k : ℕ). owners (flow_id (get_or (r ∷ rs) k 0) side) ≡ Some (flow_from p side)) z
           (subst (λ (x : EndpointPair). owners (flow_id r side) ≡ Some (flow_from x side)) same
@@ -279,9 +248,6 @@ theirs_at owners p (q ∷ ps) (r ∷ rs) i side l e h =
           ∙ e)
     ]
   where
-    some_number : (x y : ℕ) → Some x ≡ Some y → x ≡ y
-    some_number x y e = search (arith, unwrap_or)
-
     first : (d : Side) → owners (flow_id r d) ≡ Some (flow_from q d)
     first FromLesser = h.0
     first FromGreater = h.1
@@ -291,7 +257,7 @@ theirs_at owners p (q ∷ ps) (r ∷ rs) i side l e h =
         option_map suc x ≡ Some i
         → owners (flow_id (get_or (r ∷ rs) i 0) side) ≡ Some (flow_from p side)
     further None i f d = search (arith, true≢false, is_some)
-    further (Some k) i f d = search (arith, get_or, some_number)
+    further (Some k) i f d = search (arith, get_or, some_same)
 
 -- a flow is the one of its pair and side
 pub flow_of_pair : (flow : Endpoints) → flow_from (pair_of flow).0 (pair_of flow).1 ≡ flow

@@ -1,5 +1,5 @@
 -- A state is sound after each change of it.
-use Rattle.std.proofs.Common.{◌≡◌, ℕ, zero, suc, ◌+◌, ◌*◌, ◌/◌, ◌<◌, ◌≤◌, Bool, true, false, cond, nat_eq, List, [], ◌∷◌, ◌++◌, length, set, get_or, Option, Some, None, is_some, unwrap_or, is_lt, refl, sym, ◌∙◌, ap, subst, arith, inl, inr, length-append, true≢false, length-set, get_or-set_same, get_or-set_other}
+use Rattle.std.proofs.Common.{◌≡◌, ℕ, zero, suc, ◌+◌, ◌*◌, ◌/◌, ◌<◌, ◌≤◌, Bool, true, false, cond, nat_eq, List, [], ◌∷◌, ◌++◌, length, set, get_or, Option, Some, None, is_some, is_lt, refl, sym, ◌∙◌, ap, subst, arith, inl, inr, length-append, true≢false, length-set, get_or-set_same, get_or-set_other}
 use Rattle.std.specs.List.{insert, remove}
 use Rattle.std.proofs.lemmas.Bool.{cases_eq, cases_Bool, eqb-true, ne_eqb}
 use Rattle.std.proofs.lemmas.List.Edits.{length-insert, length-remove}
@@ -10,6 +10,7 @@ use Rattle.tcp_flow.specs.Flow.{Flow, Event, held_by_others}
 use Rattle.tcp_flow.specs.Laws.{HoldsOnlyToCome}
 use Rattle.tcp_flow.specs.State.{state}
 use Rattle.tcp_flow.proofs.Others.{settled_beside, others_twice}
+use Rattle.tcp_flow.proofs.Tails.{some_same}
 use Rattle.tcp_streams.specs.declared.pair.EndpointPair.{EndpointPair}
 use Rattle.tcp_streams.specs.Pairs.{compare_pairs}
 use Rattle.tcp_connections.specs.Connections.{State, flow_at, flow_state, with_flow, index_of, insertion_index}
@@ -17,9 +18,6 @@ use Rattle.tcp_connections.specs.declared.syns.KeptSyn.{KeptSyn}
 use Rattle.tcp_connections.specs.State.{IsSound, times}
 use Rattle.tcp_connections.proofs.Search.{sorted_insert, sorted_remove}
 use Rattle.tcp_connections.proofs.Times.{times_insert, times_remove, times_last, times_at}
-
-pub some_same : (x y : FlowState) → Some x ≡ Some y → x ≡ y
-some_same x y e = ap (λ (o : Option FlowState). unwrap_or o x) e
 
 pub some_none : {X : Type 0} (o : Option X) (x : X) → o ≡ Some x → o ≡ None → ⊥
 some_none o x s n = true≢false (ap is_some (sym s ∙ n))

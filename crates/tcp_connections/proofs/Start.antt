@@ -1,7 +1,9 @@
--- A state without connections is sound.
-use Rattle.std.proofs.Common.{◌≡◌, ℕ, ◌+◌, ◌*◌, ◌≤◌, List, [], length, replicate, get_or, Bool, false, Option, None, refl, arith}
+-- A state without connections is sound, and its ids stand for no flows.
+use Rattle.std.proofs.Common.{◌≡◌, ℕ, ◌+◌, ◌*◌, ◌≤◌, List, [], length, replicate, get_or, Bool, true, false, Option, None, refl, sym, ap, subst, arith, true≢false}
 use Rattle.std.proofs.lemmas.List.{length-replicate}
 use Rattle.std.specs.List.Sorted.{IsStrictlySortedBy}
+use Rattle.tcp_segment.specs.Segments.{Segment}
+use Rattle.tcp_segment.specs.declared.endpoint.Flow.{Flow as Endpoints}
 use Rattle.tcp_waiting.specs.declared.arrival.Arrival as origin
 use Rattle.tcp_waiting.specs.Payload.{Payload, count_of}
 use Rattle.tcp_flow.specs.declared.flow.FlowState.{FlowState}
@@ -10,7 +12,9 @@ use Rattle.tcp_slots.specs.Slots.{slots_below}
 use Rattle.tcp_streams.specs.declared.pair.EndpointPair.{EndpointPair}
 use Rattle.tcp_connections.specs.declared.syns.KeptSyn.{KeptSyn}
 use Rattle.tcp_connections.specs.Connections.{none_known}
+use Rattle.tcp_connections.specs.Owned.{Standing, Unopened, Live, standing, AllMayCome}
 use Rattle.tcp_connections.specs.State.{IsSound, times}
+use Rattle.tcp_connections.proofs.Owners.{IsStandingOf, IsOwned}
 use Rattle.tcp_connections.proofs.Sound.{some_none}
 use Rattle.tcp_connections.proofs.Times.{all_below, slots_length, no_flow, none_there}
 
@@ -64,3 +68,23 @@ pub start_sound : (ports : List ℕ) (blocks most segments : ℕ) (known : List 
 start_sound ports blocks most segments known slots free lasts syns came flows held events arrival
     k r f l y o w h s a some few = rw (k, r, f, l, y, o, w, h, s, a) (none_sound ports blocks most
     events some few)
+
+-- ---- No id stands for a flow.
+
+unopened : (o : Endpoints) (n : ℕ) → Unopened ≡ Live o n → ⊥
+unopened o n e = true≢false (ap is_unopened e)
+  where
+    is_unopened : Standing → Bool
+    is_unopened Unopened = true
+    is_unopened s = false
+
+pub none_owns : (segments : List Segment) (ports : List ℕ) (blocks most : ℕ) →
+    IsOwned segments (none_known ports blocks most [])
+unfolding AllMayCome standing
+none_owns segments ports blocks most = record {
+  come = λ id. tt;
+  flows = λ id. subst (IsStandingOf segments id Unopened) (sym (none_there (2 * most) id)) unopened;
+  held = tt;
+  known = tt;
+  beyond = λ id many. refl;
+}

@@ -45,7 +45,8 @@ pub record State : Type 0 where
   pub arrival : origin.Arrival
 
 -- no connection is known, and there are `most` slots
-abbrev pub none_known : (ports : List ℕ) (blocks most : ℕ) (events : List Event) → State
+abbrev pub none_known : (chosen_ports : List ℕ) (pool_block_count slot_count : ℕ)
+    (events_so_far : List Event) → State
 none_known ports blocks most events = record {
   ports = ports;
   blocks = blocks;
@@ -69,11 +70,11 @@ with_capture_event w event = record w { events = w.events ++ OfCapture event ∷
 -- ---- One flow.
 
 -- the flow of an id, from its first stream on
-abbrev pub flow_at : (state : State) (id : ℕ) → Option FlowState
+abbrev pub flow_at : (state : State) (flow_id : ℕ) → Option FlowState
 flow_at w id = get_or w.flows id None
 
 -- what is kept of a flow
-abbrev pub flow_state : Flow → FlowState
+abbrev pub flow_state : (flow : Flow) → FlowState
 flow_state f = record {
   id = f.id;
   next = f.next;
@@ -87,12 +88,12 @@ flow_state f = record {
 }
 
 -- the state after a flow was set
-unfoldable pub with_flow : (state : State) (id : ℕ) (flow : Flow) → State
+unfoldable pub with_flow : (state : State) (flow_id : ℕ) (flow : Flow) → State
 with_flow w id f =
     record w { flows = set w.flows id (Some (flow_state f)); held = f.held; events = f.events }
 
 -- something comes for a flow; nothing happens before its first payload
-unfoldable pub arrived : (reader : Reader) (state : State) (id : ℕ) (arrival : Arrival) → State
+unfoldable pub arrived : (reader : Reader) (state : State) (flow_id : ℕ) (arrival : Arrival) → State
 arrived F w id arrival =
     elim (flow_at w id) [
       | None ↦ w
@@ -100,12 +101,13 @@ arrived F w id arrival =
     ]
 
 -- the first payload of a flow comes
-unfoldable pub began : (reader : Reader) (state : State) (id number : ℕ) (octets : List ℕ) → State
+unfoldable pub began : (reader : Reader) (state : State) (flow_id first_octet_number : ℕ)
+    (octets : List ℕ) → State
 began F w id number octets =
     with_flow w id (first_payload F id number octets w.arrival w.held w.events)
 
 -- a gap in a flow
-unfoldable pub gapped : (reader : Reader) (state : State) (id : ℕ) → State
+unfoldable pub gapped : (reader : Reader) (state : State) (flow_id : ℕ) → State
 gapped F w id =
     elim (flow_at w id) [
       | None ↦ w
@@ -113,12 +115,12 @@ gapped F w id =
     ]
 
 -- whether a flow holds something
-unfoldable pub is_holding : (held : List Payload) (flow : Option FlowState) → Bool
+unfoldable pub is_holding : (held_by_all_flows : List Payload) (flow : Option FlowState) → Bool
 is_holding held None = false
 is_holding held (Some s) = is_some (oldest_index s.id s.next held)
 
 -- gaps in a flow while it holds something, at most `count`
-unfoldable pub gaps_at : (reader : Reader) (count : ℕ) (state : State) (id : ℕ) → State
+unfoldable pub gaps_at : (reader : Reader) (most_gaps : ℕ) (state : State) (flow_id : ℕ) → State
 gaps_at F zero w id = w
 gaps_at F (suc count) w id =
     elim (is_holding w.held (flow_at w id)) [
@@ -127,16 +129,17 @@ gaps_at F (suc count) w id =
     ]
 
 -- gaps in a flow until it holds nothing: each leaves less
-abbrev pub emptied : (reader : Reader) (state : State) (id : ℕ) → State
+abbrev pub emptied : (reader : Reader) (state : State) (flow_id : ℕ) → State
 emptied F w id = gaps_at F (length w.held) w id
 
 -- the one of two flows that gives up if the pool is short: the one that holds more blocks, or the
 -- first if both hold as many
-abbrev pub heavier : (held : List Payload) (one other : ℕ) → ℕ
+abbrev pub heavier : (held_by_all_flows : List Payload) (one_flow_id other_flow_id : ℕ) → ℕ
 heavier held one other = cond (nat_lt (load_of one held) (load_of other held)) other one
 
 -- the one that gives up of a flow and others after it
-unfoldable pub heaviest_from : (held : List Payload) (id : ℕ) (numbers : List ℕ) → ℕ
+unfoldable pub heaviest_from : (held_by_all_flows : List Payload) (first_flow_id : ℕ)
+    (later_flow_ids : List ℕ) → ℕ
 heaviest_from held id [] = id
 heaviest_from held id (other ∷ ids) = heaviest_from held (heavier held id other) ids
 
@@ -147,7 +150,7 @@ heaviest w = heaviest_from w.held (get_or (lives w.events) 0 0) (lives w.events)
 
 -- gaps in the flow that gives up while the pool has too few blocks for what is held, at most
 -- `count`
-unfoldable pub relieved : (reader : Reader) (count : ℕ) (state : State) → State
+unfoldable pub relieved : (reader : Reader) (most_gaps : ℕ) (state : State) → State
 relieved F zero w = w
 relieved F (suc count) w =
     elim (nat_lt w.blocks (blocks_of w.held)) [
@@ -160,7 +163,7 @@ abbrev pub within_pool : (reader : Reader) (state : State) → State
 within_pool F w = relieved F (length w.held) w
 
 -- a flow's live stream closes
-unfoldable pub closed_at : (state : State) (id : ℕ) (cause : CloseCause) → State
+unfoldable pub closed_at : (state : State) (flow_id : ℕ) (cause : CloseCause) → State
 closed_at w id cause =
     elim (flow_at w id) [
       | None ↦ w
@@ -168,7 +171,7 @@ closed_at w id cause =
     ]
 
 -- a flow is forgotten: its live stream closes, and what it holds is removed
-unfoldable pub flow_forgotten : (state : State) (id : ℕ) (cause : CloseCause) → State
+unfoldable pub flow_forgotten : (state : State) (flow_id : ℕ) (cause : CloseCause) → State
 flow_forgotten w id cause =
     elim (flow_at w id) [
       | None ↦ w
@@ -185,27 +188,28 @@ stream_start_of None = None
 stream_start_of (Some s) = s.live
 
 -- the same for the flow of an id
-abbrev pub stream_start_at : (state : State) (id : ℕ) → Option ℕ
+abbrev pub stream_start_at : (state : State) (flow_id : ℕ) → Option ℕ
 stream_start_at w id = stream_start_of (flow_at w id)
 
 -- ---- Which connections are known.
 
 -- the index of a pair among those that are known, or at which it would be inserted
-unfoldable pub insertion_index : (pair : EndpointPair) (endpoint_pairs : List EndpointPair) → ℕ
+unfoldable pub insertion_index : (pair : EndpointPair) (known_pairs : List EndpointPair) → ℕ
 insertion_index p [] = 0
 insertion_index p (q ∷ qs) = cond (is_lt (compare_pairs q p)) (suc (insertion_index p qs)) 0
 
 -- the index of a pair among those that are known
-unfoldable pub index_of : (pair : EndpointPair) (endpoint_pairs : List EndpointPair) → Option ℕ
+unfoldable pub index_of : (pair : EndpointPair) (known_pairs : List EndpointPair) → Option ℕ
 index_of p [] = None
 index_of p (q ∷ qs) = cond (is_eq (compare_pairs q p)) (Some 0) (option_map suc (index_of p qs))
 
 -- the slot of the connection at an index
-abbrev pub slot_at : (state : State) (index : ℕ) → ℕ
+abbrev pub slot_at : (state : State) (index_among_known : ℕ) → ℕ
 slot_at w index = get_or w.slots index 0
 
 -- a connection is forgotten: first the flow of one side, then the other
-unfoldable pub forgotten : (state : State) (index : ℕ) (side : Side) (cause : CloseCause) → State
+unfoldable pub forgotten : (state : State) (index_among_known : ℕ) (side_to_close_first : Side)
+    (cause : CloseCause) → State
 forgotten w index side cause =
     let slot : ℕ = slot_at w index in
     let v : State =
@@ -219,7 +223,8 @@ forgotten w index side cause =
 
 -- what the flows of a slot hold is shown, before its connection is forgotten: first that of the
 -- flow of one side
-unfoldable pub shown : (reader : Reader) (state : State) (slot : ℕ) (side : Side) → State
+unfoldable pub shown : (reader : Reader) (state : State) (slot : ℕ) (side_to_show_first : Side) →
+    State
 shown F w slot side = emptied F (emptied F w (flow_id slot side)) (flow_id slot (opposite side))
 
 -- whether a stream of a flow is live
@@ -235,7 +240,7 @@ is_live w slot =
 
 -- whether segments of a flow came since its connection became known; in the flow that made it
 -- known, the first payload counts
-abbrev pub has_come : (state : State) (id : ℕ) → Bool
+abbrev pub has_come : (state : State) (flow_id : ℕ) → Bool
 has_come w id = is_some (flow_at w id) || get_or w.came id false
 
 -- whether segments of both flows of a slot's connection came
@@ -249,20 +254,20 @@ abbrev pub room_class_of : (state : State) (slot : ℕ) → ℕ
 room_class_of w slot = cond (is_live w slot) (cond (both_have_come w slot) 2 1) 0
 
 -- whether the connection at one index was last seen before that at another
-abbrev pub is_older : (state : State) (one other : ℕ) → Bool
+abbrev pub is_older : (state : State) (one_known_index other_known_index : ℕ) → Bool
 is_older w one other =
     nat_lt (get_or w.lasts (slot_at w one) 0) (get_or w.lasts (slot_at w other) 0)
 
 -- whether the connection at one index makes room before that at another: by their classes, then by
 -- their last segments
-abbrev pub makes_room_before : (state : State) (one other : ℕ) → Bool
+abbrev pub makes_room_before : (state : State) (one_known_index other_known_index : ℕ) → Bool
 makes_room_before w one other =
     nat_lt (room_class_of w (slot_at w one)) (room_class_of w (slot_at w other))
     || nat_eq (room_class_of w (slot_at w one))
     (room_class_of w (slot_at w other)) && is_older w one other
 
 -- the index of the connection that makes room, among the first `count`
-unfoldable pub eldest : (state : State) (count : ℕ) → ℕ
+unfoldable pub eldest : (state : State) (known_pairs_compared : ℕ) → ℕ
 eldest w zero = 0
 eldest w (suc count) = cond (makes_room_before w count (eldest w count)) count (eldest w count)
 
@@ -272,7 +277,7 @@ shown_by_age F w slot = shown F w slot (elder_side slot (lives w.events))
 
 -- the connection at an index makes room: what it holds is shown, and then the stream that began
 -- first closes first
-abbrev pub cleared : (reader : Reader) (state : State) (index : ℕ) → State
+abbrev pub cleared : (reader : Reader) (state : State) (index_among_known : ℕ) → State
 cleared F w index =
     let v : State = shown_by_age F w (slot_at w index) in
     forgotten v index (elder_side (slot_at w index) (lives v.events)) Room
@@ -283,15 +288,15 @@ with_room F w =
     cond (nat_lt (length w.known) (length w.lasts)) w (cleared F w (eldest w (length w.known)))
 
 -- the slot that is taken next
-unfoldable pub next_slot : (free : List ℕ) → ℕ
+unfoldable pub next_slot : (free_slots : List ℕ) → ℕ
 next_slot free = get_or free (length free - 1) 0
 
 -- the slots that are free after that one was taken
-unfoldable pub rest_of_slots : (free : List ℕ) → List ℕ
+unfoldable pub rest_of_slots : (free_slots : List ℕ) → List ℕ
 rest_of_slots free = take (length free - 1) free
 
 -- a segment of a flow of the connection of a slot came
-abbrev pub with_segment : (state : State) (slot id : ℕ) → State
+abbrev pub with_segment : (state : State) (slot flow_id : ℕ) → State
 with_segment w slot id =
     record w { lasts = set w.lasts slot w.segments; came = set w.came id true }
 
@@ -322,7 +327,7 @@ abbrev pub number_behind : (segment : Segment) → ℕ
 number_behind s = onward (first_number s) (length s.payload)
 
 -- whether one of a flow's ports is chosen; if none is named, all are
-abbrev pub has_chosen_port : (ports : List ℕ) (flow : endpoints.Flow) → Bool
+abbrev pub has_chosen_port : (chosen_ports : List ℕ) (flow : endpoints.Flow) → Bool
 has_chosen_port ports flow =
     nat_eq (length ports) 0 || list_any (λ port. port == flow.from.port) ports
     || list_any (λ port. port == flow.to.port) ports
@@ -330,13 +335,13 @@ has_chosen_port ports flow =
 -- whether a segment's payload is the first of its flow, for which nothing has come: the segment has
 -- no RST, one of its ports is chosen, and a stream begins in the payload or it is a beginning of
 -- the six octets
-abbrev pub is_first_payload : (ports : List ℕ) (segment : Segment) → Bool
+abbrev pub is_first_payload : (chosen_ports : List ℕ) (segment : Segment) → Bool
 is_first_payload ports s =
     not s.reset && has_chosen_port ports s.flow
     && (is_some (stream_begin_in s.payload) || is_header_beginning s.payload)
 
 -- whether a segment's payload is looked through, if nothing has come for its flow
-abbrev pub is_looked_through : (ports : List ℕ) (segment : Segment) → Bool
+abbrev pub is_looked_through : (chosen_ports : List ℕ) (segment : Segment) → Bool
 is_looked_through ports s = not s.reset && has_chosen_port ports s.flow && nat_lt 0
     (length s.payload)
 
@@ -348,13 +353,13 @@ looked_through w s =
 -- ---- A SYN of a known connection.
 
 -- whether a number is near the one that is due in a flow that has begun
-unfoldable pub is_near_due : (flow : Option FlowState) (number : ℕ) → Bool
+unfoldable pub is_near_due : (flow : Option FlowState) (sequence_number : ℕ) → Bool
 is_near_due None number = false
 is_near_due (Some f) number = is_near f.next number
 
 -- whether a number is the flow's own: it is near the one that is due, or the stream begins with it
 -- that is live or waited for
-abbrev pub is_expected_number : (flow : Option FlowState) (number : ℕ) → Bool
+abbrev pub is_expected_number : (flow : Option FlowState) (sequence_number : ℕ) → Bool
 is_expected_number flow number =
     is_near_due flow number
     || elim (stream_start_of flow) [ None ↦ false | Some first ↦ nat_eq first number ]
@@ -366,7 +371,7 @@ is_syn_to_keep flow s =
     s.syn && not (is_some s.acknowledgement) && not (is_expected_number flow (onward s.sequence 1))
 
 -- a SYN is kept, in place of an older one, and the segment does nothing more
-unfoldable pub syn_kept : (state : State) (slot id : ℕ) (segment : Segment) → State
+unfoldable pub syn_kept : (state : State) (slot flow_id : ℕ) (segment : Segment) → State
 syn_kept w slot id s =
     record (with_segment w slot id) {
       syns = set w.syns slot (Some (record { flow = id; number = onward s.sequence 1 }));
@@ -378,26 +383,28 @@ syn_at w slot = get_or w.syns slot None
 
 -- whether a segment of an id answers a SYN: it is of the opposite flow, has SYN and ACK, and
 -- acknowledges the SYN
-abbrev pub answers_syn : (syn : KeptSyn) (id : ℕ) (segment : Segment) → Bool
+abbrev pub answers_syn : (kept_syn : KeptSyn) (segment_flow_id : ℕ) (segment : Segment) → Bool
 answers_syn k id s =
     not (nat_eq k.flow id) && s.syn
     && elim s.acknowledgement [ None ↦ false | Some number ↦ nat_eq number k.number ]
 
 -- whether a segment of an id follows a SYN: it has the payload after the SYN, in the same flow
-abbrev pub follows_syn : (syn : KeptSyn) (id : ℕ) (segment : Segment) → Bool
+abbrev pub follows_syn : (kept_syn : KeptSyn) (segment_flow_id : ℕ) (segment : Segment) → Bool
 follows_syn k id s =
     nat_eq k.flow id && nat_eq s.sequence k.number && nat_lt 0 (length s.payload) && not s.syn
     && not s.reset
 
 -- whether a segment begins its connection anew: it answers the SYN that is kept, or follows it
-unfoldable pub begins_anew : (syn : Option KeptSyn) (id : ℕ) (segment : Segment) → Bool
+unfoldable pub begins_anew : (kept_syn : Option KeptSyn) (segment_flow_id : ℕ) (segment : Segment) →
+    Bool
 begins_anew None id s = false
 begins_anew (Some k) id s = answers_syn k id s || follows_syn k id s
 
 -- ---- What a segment does.
 
 -- the FIN of a segment, if it has one
-unfoldable pub fin_taken : (reader : Reader) (state : State) (id : ℕ) (segment : Segment) → State
+unfoldable pub fin_taken : (reader : Reader) (state : State) (flow_id : ℕ) (segment : Segment) →
+    State
 fin_taken F w id s = cond s.fin (arrived F w id (End (number_behind s))) w
 
 -- a segment of a connection that isn't known
@@ -411,8 +418,8 @@ unknown_taken F w s =
 
 -- the packet that is read tells a flow what it acknowledges of it, and whether it has octets of the
 -- opposite flow
-unfoldable pub heard : (reader : Reader) (state : State) (id : ℕ) (acknowledged : Option ℕ)
-    (answers : Bool) → State
+unfoldable pub heard : (reader : Reader) (state : State) (flow_id : ℕ)
+    (acknowledged_number : Option ℕ) (has_opposite_octets : Bool) → State
 heard F w id acknowledged answers = arrived F w id (Hears (record {
   acknowledged = acknowledged;
   answers = answers;
@@ -420,12 +427,12 @@ heard F w id acknowledged answers = arrived F w id (Hears (record {
 }))
 
 -- a segment tells this to the opposite flow
-abbrev pub acknowledgement_heard : (reader : Reader) (state : State) (id : ℕ)
+abbrev pub acknowledgement_heard : (reader : Reader) (state : State) (opposite_flow_id : ℕ)
     (segment : Segment) → State
 acknowledgement_heard F w id s = heard F w id s.acknowledgement (nat_lt 0 (length s.payload))
 
 -- a payload: the first of its flow, or a later one, after which the pool may be short
-unfoldable pub payload_taken : (reader : Reader) (state : State) (id : ℕ) (segment : Segment) →
+unfoldable pub payload_taken : (reader : Reader) (state : State) (flow_id : ℕ) (segment : Segment) →
     State
 payload_taken F w id s =
     elim (flow_at w id) [
@@ -441,22 +448,23 @@ abbrev pub is_reset : (flow : Option FlowState) (segment : Segment) → Bool
 is_reset flow s = s.reset && is_near_due flow s.sequence
 
 -- the flow of one side of the connection at an index
-abbrev pub flow_of_side : (state : State) (index : ℕ) (side : Side) → Option FlowState
+abbrev pub flow_of_side : (state : State) (index_among_known : ℕ) (side : Side) → Option FlowState
 flow_of_side w index side = flow_at w (flow_id (slot_at w index) side)
 
 -- what a connection holds is shown, and it is forgotten, because of a segment of one side
-abbrev pub ended_by : (reader : Reader) (state : State) (index : ℕ) (side : Side)
-    (cause : CloseCause) → State
+abbrev pub ended_by : (reader : Reader) (state : State) (index_among_known : ℕ)
+    (segment_side : Side) (cause : CloseCause) → State
 ended_by F w index side cause = forgotten (shown F w (slot_at w index) side) index side cause
 
 -- the RST of a segment, if it counts
-unfoldable pub reset_taken : (reader : Reader) (state : State) (index : ℕ) (side : Side)
-    (segment : Segment) → State
+unfoldable pub reset_taken : (reader : Reader) (state : State) (index_among_known : ℕ)
+    (segment_side : Side) (segment : Segment) → State
 reset_taken F w index side s =
     cond (is_reset (flow_of_side w index side) s) (ended_by F w index side Reset) w
 
 -- a segment of a known connection, up to its RST
-abbrev pub before_reset : (reader : Reader) (state : State) (index : ℕ) (segment : Segment) → State
+abbrev pub before_reset : (reader : Reader) (state : State) (index_among_known : ℕ)
+    (segment : Segment) → State
 before_reset F w index s =
     let side : Side = (pair_of s.flow).1 in
     let slot : ℕ = slot_at w index in
@@ -467,8 +475,8 @@ before_reset F w index s =
 
 -- a segment of a known connection; at the end, its own flow is told of the packet, as what it holds
 -- may be too old
-unfoldable pub known_taken : (reader : Reader) (state : State) (index : ℕ) (segment : Segment) →
-    State
+unfoldable pub known_taken : (reader : Reader) (state : State) (index_among_known : ℕ)
+    (segment : Segment) → State
 known_taken F w index s =
     let side : Side = (pair_of s.flow).1 in
     heard F (reset_taken F (before_reset F w index s) index side s) (flow_id (slot_at w index) side)
@@ -496,7 +504,7 @@ after F w (s ∷ ss) = after F (step F w s) ss
 -- ---- What happens in the capture apart from its segments.
 
 -- one more packet is read, which came at this time, if it has one
-abbrev pub with_packet : (state : State) (time : Option ℕ) → State
+abbrev pub with_packet : (state : State) (arrival_time : Option ℕ) → State
 with_packet w time = record w {
   arrival = record { time = time; packet = min (w.arrival.packet + 1) (2 ^ 64 - 1) };
 }
@@ -505,7 +513,8 @@ with_packet w time = record w {
 
 -- while flows hold something, gaps in the one of them whose last stream began first; those before a
 -- rank hold nothing
-unfoldable pub gaps_from : (reader : Reader) (count rank : ℕ) (state : State) → State
+unfoldable pub gaps_from : (reader : Reader) (most_steps rank_by_stream_age : ℕ) (state : State) →
+    State
 gaps_from F zero rank w = w
 gaps_from F (suc count) rank w =
     elim (nat_lt rank (length (lives w.events))) [
@@ -519,12 +528,12 @@ gaps_from F (suc count) rank w =
     ]
 
 -- how a flow's live stream closes at the end: for a gap if a FIN is kept
-unfoldable pub end_cause : Option FlowState → CloseCause
+unfoldable pub end_cause : (flow : Option FlowState) → CloseCause
 end_cause None = CaptureEnd
 end_cause (Some s) = cond (is_some s.fin) Gap CaptureEnd
 
 -- the live streams of these flows close, one after another
-unfoldable pub all_closed : (numbers : List ℕ) (state : State) → State
+unfoldable pub all_closed : (flow_ids : List ℕ) (state : State) → State
 all_closed [] w = w
 all_closed (id ∷ ids) w = all_closed ids (closed_at w id (end_cause (flow_at w id)))
 

@@ -31,6 +31,6 @@ pub record AreWhole (segments : List Segment) (events : List Event) : Type 0 whe
   pub follow : (flow : ℕ) → EventsMayFollow payloads flow None events None
 
 -- each event in a flow is in one of a connection whose slot is below `most`
-abbrev pub HaveSlots : (most : ℕ) (events : List Event) → Type 0
+abbrev pub HaveSlots : (slot_count : ℕ) (events : List Event) → Type 0
 HaveSlots most events =
     AllByRecursion (λ e. (id : ℕ) → flow_of e ≡ Some id → id / 2 < most) events

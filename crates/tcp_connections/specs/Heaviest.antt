@@ -4,9 +4,12 @@ use Rattle.tcp_waiting.specs.Payload.{Payload, load_of}
 
 -- one of the flows, which are in the order of their streams, holds no fewer blocks than any other,
 -- and more than each before it
-pub record IsHeaviest (held : List Payload) (ids : List ℕ) (id : ℕ) : Type 0 where
+pub record IsHeaviest (held : List Payload) (flow_ids_oldest_first : List ℕ)
+    (flow_id : ℕ) : Type 0 where
   pub rank : ℕ
-  pub within : rank < length ids
-  pub is : id ≡ get_or ids rank 0
-  pub most : (k : ℕ) → k < length ids → load_of (get_or ids k 0) held ≤ load_of id held
-  pub first : (k : ℕ) → k < rank → load_of (get_or ids k 0) held < load_of id held
+  pub within : rank < length flow_ids_oldest_first
+  pub is : flow_id ≡ get_or flow_ids_oldest_first rank 0
+  pub most : (k : ℕ) → k < length flow_ids_oldest_first →
+      load_of (get_or flow_ids_oldest_first k 0) held ≤ load_of flow_id held
+  pub first : (k : ℕ) → k < rank →
+      load_of (get_or flow_ids_oldest_first k 0) held < load_of flow_id held

@@ -4,8 +4,8 @@ use Rattle.tcp_streams.specs.declared.pair.EndpointPair.{EndpointPair}
 use Rattle.tcp_connections.specs.Connections.{index_of}
 
 -- a pair is known at an index, and its connection has this slot
-pub record IsKnown (known : List EndpointPair) (slots : List ℕ) (pair : EndpointPair)
-    (slot index : ℕ) : Type 0 where
-  pub within : index < length known
-  pub found : index_of pair known ≡ Some index
-  pub slot_is : get_or slots index 0 ≡ slot
+pub record IsKnown (known_pairs : List EndpointPair) (slots_of_known_pairs : List ℕ)
+    (pair : EndpointPair) (slot index_among_known : ℕ) : Type 0 where
+  pub within : index_among_known < length known_pairs
+  pub found : index_of pair known_pairs ≡ Some index_among_known
+  pub slot_is : get_or slots_of_known_pairs index_among_known 0 ≡ slot

@@ -26,35 +26,36 @@ StandBefore one other (x ∷ xs) = ((x ≡ one) × (0 < times other xs)) ⊎ Sta
 
 -- Each flow has its rank. Of two flows, the one whose last stream began later has a number that is
 -- as great or greater.
-pub record AreRanked (gap_ranks : GapRanks) (flows : ℕ) (held : List Payload) (live : List ℕ)
-    : Type 0 where
-  pub many : gap_ranks.ranks.slots ≡ flows
-  pub loads : (id : ℕ) → load_of id held < 2 ^ 64
-  pub ranks : (id : ℕ) → id < flows → noted_rank gap_ranks id
-      ≡ rank_of (load_of id held) (recency_of gap_ranks id)
-  pub order : (a b : ℕ) → StandBefore a b live → recency_of gap_ranks a ≤ recency_of gap_ranks b
+pub record AreRanked (gap_ranks : GapRanks) (flow_count : ℕ) (held_by_all_flows : List Payload)
+    (live_flow_ids_oldest_first : List ℕ) : Type 0 where
+  pub many : gap_ranks.ranks.slots ≡ flow_count
+  pub loads : (id : ℕ) → load_of id held_by_all_flows < 2 ^ 64
+  pub ranks : (id : ℕ) → id < flow_count → noted_rank gap_ranks id
+      ≡ rank_of (load_of id held_by_all_flows) (recency_of gap_ranks id)
+  pub order : (a b : ℕ) → StandBefore a b live_flow_ids_oldest_first →
+      recency_of gap_ranks a ≤ recency_of gap_ranks b
 
 -- Each slot is that of one connection, or it is free and has no flows. The pairs are in order. Only
 -- flows that have begun hold something, and all of it is to come.
-pub record IsSound (w : State) : Type 0 where
-  pub some : 1 ≤ length w.lasts
-  pub most : length w.lasts ≤ 65536
-  pub pairs : length w.slots ≡ length w.known
-  pub below :
-      (slot : ℕ) → 0 < times slot w.slots + times slot w.free → slot < length w.lasts
-  pub once : (slot : ℕ) → times slot w.slots + times slot w.free ≤ 1
-  pub freed : (slot : ℕ) → 0 < times slot w.free
-      → (flow_at w (2 * slot) ≡ None) × (flow_at w (2 * slot + 1) ≡ None)
-  pub all : length w.free + length w.known ≡ length w.lasts
-  pub flows : length w.flows ≡ 2 * length w.lasts
-  pub order : IsStrictlySortedBy compare_pairs w.known
-  pub ids : (id : ℕ) (s : FlowState) → flow_at w id ≡ Some s → s.id ≡ id
-  pub settled :
-      (id : ℕ) (s : FlowState) → flow_at w id ≡ Some s → HoldsOnlyToCome (state s w.held [])
-  pub vacant : (id : ℕ) → flow_at w id ≡ None → count_of id w.held ≡ 0
+pub record IsSound (connections : State) : Type 0 where
+  pub some : 1 ≤ length connections.lasts
+  pub most : length connections.lasts ≤ 65536
+  pub pairs : length connections.slots ≡ length connections.known
+  pub below : (slot : ℕ) → 0 < times slot connections.slots + times slot connections.free →
+      slot < length connections.lasts
+  pub once : (slot : ℕ) → times slot connections.slots + times slot connections.free ≤ 1
+  pub freed : (slot : ℕ) → 0 < times slot connections.free
+      → (flow_at connections (2 * slot) ≡ None) × (flow_at connections (2 * slot + 1) ≡ None)
+  pub all : length connections.free + length connections.known ≡ length connections.lasts
+  pub flows : length connections.flows ≡ 2 * length connections.lasts
+  pub order : IsStrictlySortedBy compare_pairs connections.known
+  pub ids : (id : ℕ) (s : FlowState) → flow_at connections id ≡ Some s → s.id ≡ id
+  pub settled : (id : ℕ) (s : FlowState) → flow_at connections id ≡ Some s →
+      HoldsOnlyToCome (state s connections.held [])
+  pub vacant : (id : ℕ) → flow_at connections id ≡ None → count_of id connections.held ≡ 0
 
 -- what the code has, together with what has happened
-abbrev pub state_of : (connections : Connections) (events : List Event) → State
+abbrev pub state_of : (connections_in_code : Connections) (events_so_far : List Event) → State
 state_of c events = record {
   ports = c.ports.items;
   blocks = c.pool.blocks;
@@ -71,64 +72,70 @@ state_of c events = record {
   arrival = c.arrival;
 }
 
--- The code has a state: the listener has observed all that has happened, and `streams` are the
--- flows whose streams are live or were closed by a gap. Each flow in step is one of them. What is
--- held takes at most `over` blocks more than there are. Each flow has its rank.
-pub record IsStateOver (over : ℕ) (Observed : List Event → Type 0) (streams : List ℕ)
-    (connections : Connections)
-    (state : State) : Type 0 where
+-- The code has a state: the listener has observed all that has happened, and
+-- `live_flow_ids_oldest_first` are the flows whose streams are live or were closed by a gap. Each
+-- flow in step is one of them. What is held takes at most `blocks_over_pool` blocks more than there
+-- are. Each flow has its rank.
+pub record IsStateOver (blocks_over_pool : ℕ) (Observed : List Event → Type 0)
+    (live_flow_ids_oldest_first : List ℕ) (connections_in_code : Connections) (state : State) :
+    Type 0 where
   pub observed : Observed state.events
-  pub live : streams ≡ lives state.events
-  pub same : state_of connections state.events ≡ state
+  pub live : live_flow_ids_oldest_first ≡ lives state.events
+  pub same : state_of connections_in_code state.events ≡ state
   pub told : (id : ℕ) → is_some (stream_start_at state id) ≡ true →
       0 < times id (lives state.events)
   pub sound : IsSound state
-  pub blocks : blocks_of state.held ≤ state.blocks + over
-  pub free : connections.free.most ≡ length state.lasts
-  pub room : connections.table.most ≡ length state.lasts
-  pub ranked : AreRanked connections.givers (length state.flows) state.held (lives state.events)
+  pub blocks : blocks_of state.held ≤ state.blocks + blocks_over_pool
+  pub free : connections_in_code.free.most ≡ length state.lasts
+  pub room : connections_in_code.table.most ≡ length state.lasts
+  pub ranked : AreRanked connections_in_code.givers (length state.flows) state.held
+      (lives state.events)
 
 -- the blocks are enough, as they are between segments
-abbrev pub IsState : (Observed : List Event → Type 0) (live : List ℕ) (connections : Connections)
-    (state : State) → Type 0
+abbrev pub IsState : (Observed : List Event → Type 0) (live_flow_ids_oldest_first : List ℕ)
+    (connections_in_code : Connections) (state : State) → Type 0
 IsState = IsStateOver 0
 
 -- the code has a state after the end of the capture, which needn't be sound
-pub record IsAt (O : List Event → Type 0) (streams : List ℕ) (c : Connections) (w : State)
-    : Type 0 where
-  pub observed : O w.events
-  pub live : streams ≡ lives w.events
-  pub same : state_of c w.events ≡ w
+pub record IsAt (Observed : List Event → Type 0) (live_flow_ids_oldest_first : List ℕ)
+    (connections_in_code : Connections) (state : State) : Type 0 where
+  pub observed : Observed state.events
+  pub live : live_flow_ids_oldest_first ≡ lives state.events
+  pub same : state_of connections_in_code state.events ≡ state
 
 -- the code has a state in which at most `over` blocks are missing
-abbrev pub HasStateOver : (over : ℕ) (Observed : List Event → Type 0) (live : List ℕ)
-    (connections : Connections) → Type 0
+abbrev pub HasStateOver : (blocks_over_pool : ℕ) (Observed : List Event → Type 0)
+    (live_flow_ids_oldest_first : List ℕ) (connections_in_code : Connections) → Type 0
 HasStateOver over Observed live c = (w : State) × IsStateOver over Observed live c w
 
 -- the code has a state
-abbrev pub HasState : (Observed : List Event → Type 0) (live : List ℕ) (connections : Connections) →
-    Type 0
+abbrev pub HasState : (Observed : List Event → Type 0) (live_flow_ids_oldest_first : List ℕ)
+    (connections_in_code : Connections) → Type 0
 HasState = HasStateOver 0
 
 -- on Ok the code has the state that `step` makes of each that it had; at most `over` blocks were
 -- missing before, and `rest` are afterwards
-abbrev pub MakesOver : (over rest : ℕ) {X : Type 0} (result : Result X ListenerError)
-    (step : State → State) (Observed : List Event → Type 0) (live : List ℕ) (before : Connections)
-    (ObservedAfter : List Event → Type 0) (live_after : List ℕ) (after : Connections) → Type 0
+abbrev pub MakesOver : (blocks_over_before blocks_over_after : ℕ) {X : Type 0}
+    (result : Result X ListenerError) (expected_step : State → State)
+    (ObservedBefore : List Event → Type 0) (live_before : List ℕ) (connections_before : Connections)
+    (ObservedAfter : List Event → Type 0) (live_after : List ℕ) (connections_after : Connections) →
+    Type 0
 MakesOver over rest result step Observed live before ObservedAfter live_after after =
     (w : State) → IsStateOver over Observed live before w → OnOk result
     (IsStateOver rest ObservedAfter live_after after (step w))
 
 -- on Ok the code has the state that f makes of each that it had
-abbrev pub Makes : {X : Type 0} (result : Result X ListenerError) (step : State → State)
-    (Observed : List Event → Type 0) (live : List ℕ) (before : Connections)
-    (ObservedAfter : List Event → Type 0) (live_after : List ℕ) (after : Connections) → Type 0
+abbrev pub Makes : {X : Type 0} (result : Result X ListenerError) (expected_step : State → State)
+    (ObservedBefore : List Event → Type 0) (live_before : List ℕ) (connections_before : Connections)
+    (ObservedAfter : List Event → Type 0) (live_after : List ℕ) (connections_after : Connections) →
+    Type 0
 Makes = MakesOver 0 0
 
 -- the same at the end of the capture
-abbrev pub Ends : {X : Type 0} (result : Result X ListenerError) (step : State → State)
-    (Observed : List Event → Type 0) (live : List ℕ) (before : Connections)
-    (ObservedAfter : List Event → Type 0) (live_after : List ℕ) (after : Connections) → Type 0
+abbrev pub Ends : {X : Type 0} (result : Result X ListenerError) (expected_step : State → State)
+    (ObservedBefore : List Event → Type 0) (live_before : List ℕ) (connections_before : Connections)
+    (ObservedAfter : List Event → Type 0) (live_after : List ℕ) (connections_after : Connections) →
+    Type 0
 Ends result step Observed live before ObservedAfter live_after after =
     (w : State) → IsAt Observed live before w → OnOk result
     (IsAt ObservedAfter live_after after (step w))

@@ -14,7 +14,8 @@ use Rattle.tcp_flow.specs.Flow.{Flow, Reader, oldest_held, is_due, at, taken, dr
 use Rattle.tcp_flow.specs.Laws.{AreLater, HoldsOnlyToCome}
 use Rattle.tcp_waiting.proofs.Order.{both, first_here, first_within, place_within}
 use Rattle.tcp_flow.proofs.Steps.{length_remove, flowing_none, flowing_stays, flowing_takes, due_not, window_stops, came_held, came_nothing}
-use Rattle.tcp_flow.proofs.Truth.{reached}
+use Rattle.tcp_flow.proofs.Obeying.{reached}
+use Rattle.tcp_flow.proofs.Preserving.{either}
 use Rattle.tcp_flow.proofs.Room.{HasSameHeld, taken_stays, none_some, left_flow, far_some, window_blocks}
 use Rattle.tcp_flow.proofs.Firsts.{first_some, later_least, come_by_rank}
 
@@ -200,10 +201,6 @@ ended_settled f small h = search (
   if_none,
   both_ways,
 )
-
-either : (P : Flow → Type 0) (b : Bool) (f g : Flow) → P f → P g → P (cond b f g)
-either P true f g p q = p
-either P false f g p q = q
 
 -- after the flow has gone on, no held payload is due
 gone_on_ends : (F : Reader) (f : Flow) → NoneIsDue (gone_on_with_held F f)

@@ -1,10 +1,9 @@
 -- A packet that gives up nothing, since it acknowledges nothing that is to come and all that waits
 -- is young.
-use Rattle.std.proofs.Common.{◌≡◌, ℕ, ◌-◌, ◌*◌, ◌<◌, ◌≤◌, Bool, false, nat_le, ◌&&◌, ◌||◌, List, [], ◌∷◌, length, get_or, Option, Some, None, IfSome, refl, sym, ◌∙◌, arith}
+use Rattle.std.proofs.Common.{◌≡◌, ℕ, ◌-◌, ◌*◌, ◌<◌, Bool, false, nat_le, ◌&&◌, ◌||◌, List, [], ◌∷◌, length, get_or, Option, Some, None, IfSome, refl}
 use Rattle.std.specs.List.{AllByRecursion}
 use Rattle.std.specs.Option.{option_map}
 use Rattle.std.proofs.lemmas.Bool.{lt-leb}
-use Rattle.tcp_waiting.specs.declared.arrival.Arrival as origin
 use Rattle.tcp_waiting.specs.Payload.{Payload, no_payload, AreYounger}
 use Rattle.tcp_waiting.proofs.Held.{all_at}
 use Rattle.tcp_flow.specs.declared.hearing.Heard.{Heard}

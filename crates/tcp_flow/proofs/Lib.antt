@@ -4,7 +4,9 @@ pub mod Content
 pub mod ContentRuns
 pub mod Direct
 mod Early
+pub mod Events
 pub mod Firsts
+pub mod Obeying
 pub mod Order
 pub mod Others
 pub mod Places
@@ -15,5 +17,4 @@ mod Rows
 pub mod States
 pub mod Steps
 pub mod Tails
-pub mod Told
 pub mod Truth

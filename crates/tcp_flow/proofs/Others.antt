@@ -1,12 +1,12 @@
 -- Several flows: a step of one leaves what the others hold, so they stay settled and without gaps.
-use Rattle.std.proofs.Common.{◌≡◌, ℕ, zero, suc, ◌+◌, ◌<◌, ◌≤◌, ◌^◌, Bool, true, false, cond, nat_eq, ◌&&◌, ◌||◌, List, [], ◌∷◌, length, get_or, Some, is_some, refl, sym, ◌∙◌, ap, subst, arith}
+use Rattle.std.proofs.Common.{◌≡◌, ℕ, zero, suc, ◌<◌, ◌≤◌, ◌^◌, Bool, true, false, cond, nat_eq, List, [], ◌∷◌, length, get_or, is_some, refl, sym, ◌∙◌, ap, subst, arith}
 use Rattle.std.specs.List.{insert, remove}
 use Rattle.std.proofs.lemmas.Bool.{or_parts, eq-eqb, ne_eqb, eqb-true}
-use Rattle.tcp_waiting.specs.Payload.{Payload, no_payload, oldest_index, blocks_of, holds_as_long, put, place_of, key_of}
-use Rattle.tcp_waiting.specs.Numbers.{age, rank}
-use Rattle.tcp_flow.specs.Flow.{Flow, Reader, Arrival, Octets, End, Hears, held_by_others, oldest_held, without_old_octets, gone_on_with_held, with_gap, within_window, with_held, payload_came, fin_came, step}
+use Rattle.tcp_waiting.specs.Payload.{Payload, no_payload, oldest_index, blocks_of, place_of, key_of}
+use Rattle.tcp_waiting.specs.Numbers.{rank}
+use Rattle.tcp_flow.specs.Flow.{Flow, Reader, Arrival, Octets, End, Hears, held_by_others, oldest_held, without_old_octets, with_gap, with_held, payload_came, step}
 use Rattle.tcp_flow.specs.Laws.{AreLater, HoldsOnlyToCome}
-use Rattle.tcp_flow.proofs.Preserving.{StepsKeep, gone_on_keeps, gap_keeps, window_keeps, heard_keeps}
+use Rattle.tcp_flow.proofs.Preserving.{StepsKeep, came_keeps, fin_keeps, gap_keeps, heard_keeps}
 use Rattle.tcp_flow.proofs.Room.{HeldSatisfies, held_keeps, left_flow}
 use Rattle.tcp_flow.proofs.Firsts.{first_some}
 
@@ -66,43 +66,30 @@ others_keeps : (F : Reader) (rest : List Payload) (id : ℕ) →
 unfolding OthersHold
 others_keeps F rest id = search (arith, held_keeps, others_keep)
 
-either : (P : Flow → Type 0) (b : Bool) (f g : Flow) → P f → P g → P (cond b f g)
-either P true f g p q = p
-either P false f g p q = q
-
 same_others : (f : Flow) → HeldSatisfies (OthersHold (held_by_others f.id f.held)) f.id f
 unfolding OthersHold
 same_others f = search (arith)
 
 came_others : (F : Reader) (f : Flow) (p : Payload) → p.flow ≡ f.id →
     HeldSatisfies (OthersHold (held_by_others f.id f.held)) f.id (payload_came F f p)
-unfolding payload_came with_held OthersHold
+unfolding with_held OthersHold
 came_others F f p own =
-    let P = HeldSatisfies (OthersHold (held_by_others f.id f.held)) f.id in
-    let k = others_keeps F (held_by_others f.id f.held) f.id in
     let q : Payload = without_old_octets f.next (is_some f.live) p in
-    let h : Flow = record f { held = put q f.held } in
-    let start : P h = record {
+    came_keeps F (HeldSatisfies (OthersHold (held_by_others f.id f.held)) f.id)
+    (others_keeps F (held_by_others f.id f.held) f.id) f p (same_others f) (record {
       own = refl;
       held =
           others_put f.id f.held (place_of (key_of q) f.held) q
           (left_flow f.next (is_some f.live) p ∙ own);
-    } in
-    either P (nat_eq (length q.octets) 0 || holds_as_long f.id q.number (length q.octets) f.held) f
-    (within_window F (length f.held + 1) (gone_on_with_held F h)) (same_others f)
-    (window_keeps F P k (length f.held + 1) (gone_on_with_held F h)
-    (gone_on_keeps F P k h start))
+    })
 
 step_holds : (F : Reader) (f : Flow) (a : Arrival) →
     HeldSatisfies (OthersHold (held_by_others f.id f.held)) f.id (step F f a)
-unfolding step fin_came OthersHold
+unfolding step OthersHold
 step_holds F f (Octets n octets arrival) = search (arith, came_others)
 step_holds F f (End n) =
-    let P = HeldSatisfies (OthersHold (held_by_others f.id f.held)) f.id in
-    either P (is_some f.live && nat_eq (age f.next n) 0)
-    (gone_on_with_held F (record f { fin = Some n })) f
-    (gone_on_keeps F P (others_keeps F (held_by_others f.id f.held) f.id)
-    (record f { fin = Some n }) (record { own = refl; held = refl })) (same_others f)
+    fin_keeps F (HeldSatisfies (OthersHold (held_by_others f.id f.held)) f.id)
+    (others_keeps F (held_by_others f.id f.held) f.id) f n (same_others f)
 step_holds F f (Hears h) =
     heard_keeps F (HeldSatisfies (OthersHold (held_by_others f.id f.held)) f.id)
     (others_keeps F (held_by_others f.id f.held) f.id) (length f.held) h f

@@ -1,5 +1,5 @@
 -- How many blocks of the pool a step of a flow takes, and that its gaps end.
-use Rattle.std.proofs.Common.{◌≡◌, ℕ, zero, suc, ◌+◌, ◌-◌, ◌/◌, ◌<◌, ◌≤◌, Bool, true, false, cond, nat_eq, nat_lt, ◌&&◌, ◌||◌, not, List, [], ◌∷◌, length, get_or, Option, Some, None, is_some, refl, sym, ◌∙◌, ap, subst, arith, length-drop, inl, inr, unwrap_or, ◌^◌}
+use Rattle.std.proofs.Common.{◌≡◌, ℕ, zero, suc, ◌+◌, ◌-◌, ◌/◌, ◌<◌, ◌≤◌, Bool, true, false, cond, nat_eq, nat_lt, ◌&&◌, not, List, [], ◌∷◌, length, get_or, Option, Some, None, is_some, refl, sym, ◌∙◌, ap, subst, arith, length-drop, inl, inr, unwrap_or, ◌^◌}
 use Rattle.tcp_waiting.proofs.Queries.{blocks_insert}
 use Rattle.std.specs.List.{remove}
 use Rattle.std.proofs.lemmas.Bool.{cases_Bool, or_cases, and_parts, not-true, true≢false, or_left, or_right, cond-true, cond-false}
@@ -7,15 +7,14 @@ use Rattle.std.proofs.lemmas.List.{nil_from_length}
 use Rattle.tcp_flow.specs.declared.flow.CloseCause.{CloseCause}
 use Rattle.tcp_flow.specs.declared.flow.CloseCause.TheVariants.{Gap}
 use Rattle.tcp_flow.specs.declared.hearing.Heard.{Heard}
-use Rattle.tcp_flow.specs.declared.tail.Tail.{Tail}
 use Rattle.tcp_waiting.specs.Numbers.{ahead, onward, age, is_to_come}
-use Rattle.tcp_waiting.specs.Payload.{without_first, Payload, no_payload, window, oldest_index, blocks_of, holds_beyond_window, holds_as_long, put, place_of, key_of}
-use Rattle.tcp_flow.specs.Flow.{Flow, Reader, without_old_octets, with_event, stream_closed, closed_at_fault, delivered_unchecked, delivered, looked_through, tail_continued_by, with_arrival_told, lives, out_of_step, started, begun_if_awaited, taken, oldest_held, is_due, at, drained_at_most, drained_due, closed, gone_on_with_held, awaiting_stream, closed_for_gap, passable_octets, octets_passed_over, with_gap, within_window, is_lost, heard, with_held, payload_came, fin_came}
+use Rattle.tcp_waiting.specs.Payload.{without_first, Payload, no_payload, window, oldest_index, blocks_of, holds_beyond_window, place_of, key_of}
+use Rattle.tcp_flow.specs.Flow.{Flow, Reader, without_old_octets, with_event, stream_closed, lives, out_of_step, taken, oldest_held, is_due, at, drained_at_most, drained_due, closed, gone_on_with_held, awaiting_stream, closed_for_gap, passable_octets, octets_passed_over, with_gap, within_window, is_lost, heard, with_held, payload_came, fin_came}
 use Rattle.tcp_waiting.proofs.Order.{first_within, first_own}
-use Rattle.tcp_flow.proofs.Tails.{looked_by}
+use Rattle.tcp_flow.proofs.Events.{EventsKeep, taken_kept, closed_kept}
 use Rattle.tcp_flow.proofs.Firsts.{first_some, first_anywhere, first_reached}
 use Rattle.tcp_flow.proofs.Steps.{length_remove, flowing_takes, due_now, due_reached}
-use Rattle.tcp_flow.proofs.Preserving.{gap_keeps, StepsKeep, flowing_by, rest_keeps, gone_on_keeps, window_keeps, heard_keeps}
+use Rattle.tcp_flow.proofs.Preserving.{came_keeps, fin_keeps, gap_keeps, StepsKeep, flowing_by, rest_keeps, gone_on_keeps, window_keeps, heard_keeps}
 
 same : {X : Type 0} (get : Flow → X) (b : Bool) (f g : Flow) (x : X) → get f ≡ x → get g ≡ x →
     get (cond b f g) ≡ x
@@ -27,64 +26,25 @@ pub record HasSameHeld (before after : Flow) : Type 0 where
   pub held : after.held ≡ before.held
   pub id : after.id ≡ before.id
 
-stays_either : (f : Flow) (b : Bool) (g h : Flow) → HasSameHeld f g → HasSameHeld f h →
-    HasSameHeld f (cond b g h)
-stays_either f true g h s t = s
-stays_either f false g h s t = t
-
-stays_checked : (f g : Flow) (r : Option ℕ) → HasSameHeld f g → HasSameHeld f (closed_at_fault g r)
-unfolding closed_at_fault with_event
-stays_checked f g None s = s
-stays_checked f g (Some at) s = record { held = s.held; id = s.id }
-
-delivered_stays : (F : Reader) (f : Flow) (p : Payload) → HasSameHeld f (delivered F f p)
-unfolding delivered with_event
-delivered_stays F f p =
-    stays_checked f (delivered_unchecked f p) (F.faulted (delivered_unchecked f p).events)
-    (record { held = refl; id = refl })
-
--- one step after another
-stays_on : (f g h : Flow) → HasSameHeld f g → HasSameHeld g h → HasSameHeld f h
-stays_on f g h s t = record { held = t.held ∙ s.held; id = t.id ∙ s.id }
-
-looked_stays : (F : Reader) (f : Flow) (p : Payload) (o : Option Tail) →
-    HasSameHeld f (looked_through F f p o)
+stays_kept : (f : Flow) → EventsKeep (HasSameHeld f)
 unfolding with_event
-looked_stays F f p o =
-    looked_by F (HasSameHeld f) (λ g q s. stays_on f g (delivered F g q) s (delivered_stays F g q))
-    (λ g n s. record { held = s.held; id = s.id }) (λ g t xs s. record { held = s.held; id = s.id })
-    f p o (record { held = refl; id = refl })
-
-resumed_stays : (f : Flow) → HasSameHeld f (begun_if_awaited f)
-unfolding with_event
-resumed_stays f = stays_either f f.waits (started f f.next) f (record { held = refl; id = refl })
-    (record { held = refl; id = refl })
-
-stays_from : (f : Flow) (p : Payload) (g : Flow) → HasSameHeld (with_arrival_told f p) g →
-    HasSameHeld f g
-unfolding with_arrival_told with_event
-stays_from f p g s = record { held = s.held; id = s.id }
+stays_kept f = record {
+  tells = λ g e s. record { held = s.held; id = s.id };
+  begins = λ g n s. record { held = s.held; id = s.id };
+  delivers = λ g p s. record { held = s.held; id = s.id };
+  closes = λ g n cause s. record { held = s.held; id = s.id };
+  idles = λ g s. record { held = s.held; id = s.id };
+  tails = λ g t s. record { held = s.held; id = s.id };
+}
 
 -- taking a payload changes neither the flow's id nor what is held
 pub taken_stays : (F : Reader) (f : Flow) (p : Payload) → HasSameHeld f (taken F f p)
-unfolding taken with_arrival_told with_event
 taken_stays F f p =
-    let q : Payload = without_old_octets f.next (is_some f.live) p in
-    let g : Flow = with_arrival_told f p in
-    let d : Flow = delivered F (begun_if_awaited g) q in
-    let b : Flow = looked_through F g q (tail_continued_by f.tail q.number q.octets) in
-    stays_either f (nat_eq (length q.octets) 0) f (cond (is_some f.live) d b)
-    (record { held = refl; id = refl })
-    (stays_either f (is_some f.live) d b (stays_from f p d
-    (stays_on g (begun_if_awaited g) d (resumed_stays g)
-    (delivered_stays F (begun_if_awaited g) q)))
-    (stays_from f p b (looked_stays F g q (tail_continued_by f.tail q.number q.octets))))
+    taken_kept (HasSameHeld f) (stays_kept f) F f p (record { held = refl; id = refl })
 
 closed_stays : (f : Flow) (cause : CloseCause) → HasSameHeld f (closed f cause)
-unfolding closed with_event
 closed_stays f cause =
-    stays_either f (lives f.live f.waits) (stream_closed f f.next cause) (out_of_step f)
-    (record { held = refl; id = refl }) (record { held = refl; id = refl })
+    closed_kept (HasSameHeld f) (stays_kept f) f cause (record { held = refl; id = refl })
 
 awaiting_stays : (f : Flow) (count : ℕ) → HasSameHeld f (awaiting_stream f count)
 awaiting_stays f count = let s : HasSameHeld f (closed f Gap) = closed_stays f Gap in
@@ -294,11 +254,6 @@ left_flow next live p = flow_either (nat_lt window (age next p.number) && not li
     (without_first (age next p.number) p)
     p.flow refl refl
 
-blocks_either : (blocks : ℕ) (b : Bool) (f g : Flow) → blocks_of f.held ≤ blocks →
-    blocks_of g.held ≤ blocks → blocks_of (cond b f g).held ≤ blocks
-blocks_either blocks true f g e d = e
-blocks_either blocks false f g e d = d
-
 blocks_remove : (ps : List Payload) (i : ℕ) → blocks_of (remove ps i) ≤ blocks_of ps
 unfolding blocks_of
 blocks_remove [] zero = omega arith
@@ -327,27 +282,20 @@ left_shorter next live p = by (nat_lt window (age next p.number) && not live)
 -- a payload that comes takes no more blocks than its own
 pub came_blocks : (F : Reader) (f : Flow) (p : Payload) →
     blocks_of (payload_came F f p).held ≤ blocks_of f.held + (length p.octets + 1023) / 1024
-unfolding payload_came with_held FitsBlocks
+unfolding with_held FitsBlocks
 came_blocks F f p =
     let q : Payload = without_old_octets f.next (is_some f.live) p in
-    let h : Flow = record f { held = put q f.held } in
     let most : ℕ = blocks_of f.held + (length p.octets + 1023) / 1024 in
-    let k : StepsKeep F (HeldSatisfies (FitsBlocks most) f.id) = blocks_keeps F most f.id in
-    let start : HeldSatisfies (FitsBlocks most) f.id h =
-    record {
+    (came_keeps F (HeldSatisfies (FitsBlocks most) f.id) (blocks_keeps F most f.id) f p
+    (record { own = refl; held = omega arith })
+    (record {
       own = refl;
       held = omega (
         arith,
         blocks_insert f.held (place_of (key_of q) f.held) q,
         left_shorter f.next (is_some f.live) p,
       );
-    } in
-    blocks_either most
-    (nat_eq (length q.octets) 0 || holds_as_long f.id q.number (length q.octets) f.held) f
-    (within_window F (length f.held + 1) (gone_on_with_held F h)) (omega arith)
-    (window_keeps F (HeldSatisfies (FitsBlocks most) f.id) k (length f.held + 1)
-    (gone_on_with_held F h)
-    (gone_on_keeps F (HeldSatisfies (FitsBlocks most) f.id) k h start)).held
+    })).held
 
 -- going on, and the gaps after it, take no more blocks
 pub window_blocks : (F : Reader) (count : ℕ) (f : Flow) →
@@ -364,13 +312,9 @@ window_blocks F count f =
 -- if no payload comes, no more blocks are taken
 pub fin_blocks : (F : Reader) (f : Flow) (n : ℕ) →
     blocks_of (fin_came F f n).held ≤ blocks_of f.held
-unfolding fin_came FitsBlocks
-fin_blocks F f n =
-    blocks_either (blocks_of f.held) ((is_some f.live) && nat_eq (age f.next n) 0)
-    (gone_on_with_held F (record f { fin = Some n })) f
-    (gone_on_keeps F (HeldSatisfies (FitsBlocks (blocks_of f.held)) f.id)
-    (blocks_keeps F (blocks_of f.held) f.id) (record f { fin = Some n })
-    (record { own = refl; held = omega arith })).held (omega arith)
+unfolding FitsBlocks
+fin_blocks F f n = (fin_keeps F (HeldSatisfies (FitsBlocks (blocks_of f.held)) f.id)
+    (blocks_keeps F (blocks_of f.held) f.id) f n (record { own = refl; held = omega arith })).held
 
 pub gap_blocks : (F : Reader) (f : Flow) → blocks_of (with_gap F f).held ≤ blocks_of f.held
 unfolding FitsBlocks

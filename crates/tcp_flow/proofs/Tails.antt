@@ -72,7 +72,7 @@ pub front_is : (ys : List ℕ) → may_be_header ys ≡ true → length ys ≤ 5
     ys ≡ take (length ys) first_five
 front_is ys h l = search (arith, get_or, front_by)
 
-onward_small : (n k : ℕ) → onward n k < 2 ^ 32
+pub onward_small : (n k : ℕ) → onward n k < 2 ^ 32
 onward_small n k = omega arith
 
 total_more : (ns : List ℕ) (k : ℕ) → total (ns ++ k ∷ []) ≡ total ns + k
@@ -165,7 +165,7 @@ before_none o n xs e = search (arith)
 none_some : {X : Type 0} (t : X) → ◌≡◌ {A = Option X} None (Some t) → ⊥
 none_some t e = true≢false (sym (ap is_some e))
 
-some_same : {X : Type 0} (x y : X) → Some x ≡ Some y → x ≡ y
+pub some_same : {X : Type 0} (x y : X) → Some x ≡ Some y → x ≡ y
 some_same {X = X} x y e = ap (λ (o : Option X). unwrap_or o x) e
 
 pub before_is : (o : Option Tail) (t : Tail) (n : ℕ) (xs : List ℕ) →

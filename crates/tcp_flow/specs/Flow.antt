@@ -16,18 +16,18 @@ use Rattle.tcp_waiting.specs.Numbers.{ahead, onward, age, is_to_come}
 -- octets were looked through, and no stream begins in them; the capture has a fault of this word,
 -- at the octet of this number
 pub data CaptureEvent : Type 0 where
-  ComesFrom : origin.Arrival → CaptureEvent
-  Passes : List ℕ → CaptureEvent
-  HasFault : List ℕ → ℕ → CaptureEvent
+  ComesFrom : (packet : origin.Arrival) → CaptureEvent
+  Passes : (octets_looked_through : List ℕ) → CaptureEvent
+  HasFault : (fault_word : List ℕ) → (octet_number : ℕ) → CaptureEvent
 
 -- what happens in flows, each named by its id: the id stands for the flow between these endpoints
 -- from now on; a stream begins; octets are delivered to it; it closes; and what happens in the
 -- capture
 pub data Event : Type 0 where
-  Opens : ℕ → endpoints.Flow → Event
-  Begins : ℕ → Start → Event
-  Delivers : ℕ → List ℕ → Event
-  Closes : ℕ → CloseCause → Event
+  Opens : (flow_id : ℕ) → endpoints.Flow → Event
+  Begins : (flow_id : ℕ) → Start → Event
+  Delivers : (flow_id : ℕ) → (octets : List ℕ) → Event
+  Closes : (flow_id : ℕ) → CloseCause → Event
   OfCapture : CaptureEvent → Event
 
 -- the flow in which an event happens, if it happens in one
@@ -43,8 +43,8 @@ flow_of (OfCapture event) = None
 -- many octets the message lacks that the last stream of a flow is in, if its header is complete, or
 -- 0 if the stream is in no message
 pub record Reader : Type 0 where
-  pub faulted : List Event → Option ℕ
-  pub lacking : List Event → ℕ → Option ℕ
+  pub faulted : (events : List Event) → Option ℕ
+  pub lacking : (events : List Event) → (flow_id : ℕ) → Option ℕ
 
 -- A flow: `next` is the number that is due. While the flow is in step, `live` is the number that
 -- its stream begins with, and `waits` says whether it waits for that stream. `fin` is a FIN to
@@ -67,18 +67,18 @@ pub record Flow : Type 0 where
 
 -- whether a number is at most W before or after the one that is due, as the window of a receiver
 -- reaches (RFC 5961, Sections 3.2 and 4.2)
-abbrev pub is_near : (next number : ℕ) → Bool
+abbrev pub is_near : (next_due_number sequence_number : ℕ) → Bool
 is_near next number = nat_le (ahead next number) window || nat_le (ahead number next) window
 
 -- whether octets begin with `GIOP` 01 and 00, 01 or 02
-abbrev pub is_header : (octets : List ℕ) → Bool
+abbrev pub is_header : (octets_from_here_on : List ℕ) → Bool
 is_header octets =
     nat_le 6 (length octets) && nat_eq (get_or octets 0 0) 71 && nat_eq (get_or octets 1 0) 73
     && nat_eq (get_or octets 2 0) 79 && nat_eq (get_or octets 3 0) 80
     && nat_eq (get_or octets 4 0) 1 && nat_le (get_or octets 5 0) 2
 
 -- the index of the first header
-unfoldable pub index_of_header : (octets : List ℕ) → Option ℕ
+unfoldable pub index_of_header : (octets_to_search : List ℕ) → Option ℕ
 index_of_header [] = None
 index_of_header (x ∷ xs) = cond (is_header (x ∷ xs)) (Some 0) (option_map suc (index_of_header xs))
 
@@ -87,7 +87,7 @@ abbrev pub big_endian_number : (first second third fourth : ℕ) → ℕ
 big_endian_number first second third fourth = ((first * 256 + second) * 256 + third) * 256 + fourth
 
 -- the size that a header of 12 octets has, in its byte order (GIOP Message Header)
-abbrev pub message_size_in : (octets : List ℕ) → ℕ
+abbrev pub message_size_in : (octets_from_header_on : List ℕ) → ℕ
 message_size_in octets =
     cond (nat_eq (get_or octets 6 0 % 2) 1)
     (big_endian_number (get_or octets 11 0) (get_or octets 10 0) (get_or octets 9 0)
@@ -96,14 +96,14 @@ message_size_in octets =
     (get_or octets 11 0))
 
 -- where the first message ends, if all of it is there
-abbrev pub message_end : (octets : List ℕ) → Option ℕ
+abbrev pub message_end : (octets_from_message_on : List ℕ) → Option ℕ
 message_end octets =
     cond (nat_lt (length octets) 12) None
     (cond (nat_lt (length octets) (12 + message_size_in octets)) None
     (Some (12 + message_size_in octets)))
 
 -- whether octets begin with the six octets, as far as they go
-abbrev pub may_be_header : (octets : List ℕ) → Bool
+abbrev pub may_be_header : (octets_perhaps_too_few : List ℕ) → Bool
 may_be_header octets =
     nat_eq (get_or octets 0 71) 71 && nat_eq (get_or octets 1 73) 73 && nat_eq (get_or octets 2 79)
     79
@@ -112,7 +112,8 @@ may_be_header octets =
 
 -- whether messages follow one another up to the end, the last perhaps cut, and one of them is
 -- whole, or one before them was (`whole`); at most `count` are looked at
-unfoldable pub chain_from : (count : ℕ) (whole : Bool) (octets : List ℕ) → Bool
+unfoldable pub chain_from : (message_limit : ℕ) (whole_message_before : Bool)
+    (octets_up_to_the_end : List ℕ) → Bool
 chain_from zero whole octets = whole
 chain_from (suc count) whole octets =
     cond (nat_eq (length octets) 0) whole
@@ -122,12 +123,12 @@ chain_from (suc count) whole octets =
     ]) false)
 
 -- whether messages follow one another up to the end, one of them whole
-abbrev pub is_chain : (octets : List ℕ) → Bool
+abbrev pub is_chain : (octets_up_to_the_end : List ℕ) → Bool
 is_chain octets = chain_from (length octets) false octets
 
 -- where a stream begins in octets that are looked through: at the first place with the six octets,
 -- if it is the front or messages follow one another from it up to the end
-unfoldable pub stream_begin_in : (octets : List ℕ) → Option ℕ
+unfoldable pub stream_begin_in : (octets_looked_through : List ℕ) → Option ℕ
 stream_begin_in octets =
     elim (index_of_header octets) [
       | None ↦ None
@@ -144,7 +145,7 @@ is_header_beginning octets = nat_lt 0 (length octets) && nat_lt
     (length octets) 6 && may_be_header octets
 
 -- octets, cut into parts of these lengths
-unfoldable pub cut_up : (octets sizes : List ℕ) → List (List ℕ)
+unfoldable pub cut_up : (octets part_lengths : List ℕ) → List (List ℕ)
 cut_up octets [] = []
 cut_up octets (n ∷ ns) = take n octets ∷ cut_up (drop n octets) ns
 
@@ -157,7 +158,7 @@ abbrev pub parts_of : (tail : Tail) → List (List ℕ)
 parts_of t = cut_up first_five (take t.count t.parts)
 
 -- the tail of one payload with a number and `count` octets
-abbrev pub tail_of : (number count : ℕ) → Tail
+abbrev pub tail_of : (first_octet_number octet_count : ℕ) → Tail
 tail_of n count = record {
   number = n;
   octets = count;
@@ -166,7 +167,7 @@ tail_of n count = record {
 }
 
 -- a tail with one more payload of `count` octets; it has five payloads at most
-abbrev pub lengthened : (tail : Tail) (count : ℕ) → Tail
+abbrev pub lengthened : (tail : Tail) (new_payload_octet_count : ℕ) → Tail
 lengthened t count =
     cond (nat_lt t.count 5) (record t {
       octets = t.octets + count;
@@ -176,22 +177,24 @@ lengthened t count =
 
 -- whether octets at a number go on from a tail: the tail ends there, and both together begin with
 -- the six octets or are a beginning of them
-abbrev pub is_continued_by : (tail : Tail) (number : ℕ) (octets : List ℕ) → Bool
+abbrev pub is_continued_by : (tail : Tail) (first_octet_number : ℕ) (octets : List ℕ) → Bool
 is_continued_by t number octets =
     nat_eq (onward t.number t.octets) number && may_be_header (octets_of t ++ octets)
 
 -- the tail, if octets at a number go on from it
-unfoldable pub tail_continued_by : (tail : Option Tail) (number : ℕ) (octets : List ℕ) → Option Tail
+unfoldable pub tail_continued_by : (tail : Option Tail) (first_octet_number : ℕ) (octets : List ℕ) →
+    Option Tail
 tail_continued_by None number octets = None
 tail_continued_by (Some t) number octets = cond (is_continued_by t number octets) (Some t) None
 
 -- whether a stream lives, if the flow is in step or not and waits or not
-abbrev pub lives : (live : Option ℕ) (waits : Bool) → Bool
+abbrev pub lives : (stream_start_if_in_step : Option ℕ) (waits_for_stream : Bool) → Bool
 lives live waits = is_some live && not waits
 
 -- what is left of a payload without the octets before `next`; if the flow isn't in step and the
 -- payload begins more than W before `next`, all of it is left
-unfoldable pub without_old_octets : (next : ℕ) (live : Bool) (payload : Payload) → Payload
+unfoldable pub without_old_octets : (next_due_number : ℕ) (flow_is_in_step : Bool)
+    (payload : Payload) → Payload
 without_old_octets next live p = cond (nat_lt window (age next p.number) && not live) p
     (without_first (age next p.number) p)
 
@@ -203,17 +206,17 @@ abbrev pub out_of_step : (flow : Flow) → Flow
 out_of_step f = record f { live = None; waits = false }
 
 -- the live stream closes, and octets from a number on are in no stream
-abbrev pub stream_closed : (flow : Flow) (since : ℕ) (cause : CloseCause) → Flow
+abbrev pub stream_closed : (flow : Flow) (no_stream_from_number : ℕ) (cause : CloseCause) → Flow
 stream_closed f since cause = with_event (record (out_of_step f) { since = since })
     (Closes f.id cause)
 
 -- the number after an octet of the live stream; the octet is counted from 1
-abbrev pub number_after_octet : (flow : Flow) (octet : ℕ) → ℕ
+abbrev pub number_after_octet : (flow : Flow) (octet_of_stream_from_1 : ℕ) → ℕ
 number_after_octet f at = onward (unwrap_or f.live f.next) at
 
 -- the live stream closes if its reader is at a fault: what comes after the octet of the fault is in
 -- no stream
-unfoldable pub closed_at_fault : (flow : Flow) (octet : Option ℕ) → Flow
+unfoldable pub closed_at_fault : (flow : Flow) (fault_octet_of_stream_from_1 : Option ℕ) → Flow
 closed_at_fault f None = f
 closed_at_fault f (Some at) = stream_closed f (number_after_octet f at) Fault
 
@@ -230,7 +233,7 @@ delivered F f p = closed_at_fault (delivered_unchecked f p)
 -- What a stream begins with that begins at a number. It is found if the flow didn't wait for it,
 -- and octets before it are in no stream or the flow had a stream before it. It is also found if an
 -- earlier stream of the flow was.
-abbrev pub start_at : (flow : Flow) (number : ℕ) → Start
+abbrev pub start_at : (flow : Flow) (first_octet_number : ℕ) → Start
 start_at f n = record {
   number = n;
   passed = ahead f.since n;
@@ -238,7 +241,7 @@ start_at f n = record {
 }
 
 -- a stream begins at a number, which is then due
-abbrev pub started : (flow : Flow) (number : ℕ) → Flow
+abbrev pub started : (flow : Flow) (first_octet_number : ℕ) → Flow
 started f number = with_event (record f {
   next = number;
   live = Some number;
@@ -255,7 +258,7 @@ begun_if_awaited f = cond f.waits (started f f.next) f
 -- if a stream begins in a payload, the octets from there on are delivered to it; if not, the octets
 -- were looked through in vain, and are the new tail if they are a beginning of the six octets
 unfoldable pub begun_in_payload : (reader : Reader) (flow : Flow) (payload : Payload)
-    (index : Option ℕ) → Flow
+    (stream_begin_index : Option ℕ) → Flow
 begun_in_payload F f p None =
     with_event (record f {
       tail = cond (is_header_beginning p.octets) (Some (tail_of p.number (length p.octets))) f.tail;
@@ -265,8 +268,8 @@ begun_in_payload F f p (Some index) = delivered F (started f (onward p.number in
 
 -- the octets of each payload are delivered while the stream lives; what comes after a fault of its
 -- reader isn't
-unfoldable pub all_delivered : (reader : Reader) (flow : Flow) (arrival : origin.Arrival)
-    (parts : List (List ℕ)) → Flow
+unfoldable pub all_delivered : (reader : Reader) (flow : Flow) (arrival_of_each : origin.Arrival)
+    (octets_of_each_payload : List (List ℕ)) → Flow
 all_delivered F f arrival [] = f
 all_delivered F f arrival (xs ∷ xss) =
     cond (lives f.live f.waits)
@@ -284,7 +287,7 @@ joined_to_tail F f p t =
 
 -- a payload is looked through, after the tail that it goes on from, if there is one
 unfoldable pub looked_through : (reader : Reader) (flow : Flow) (payload : Payload)
-    (tail : Option Tail) → Flow
+    (tail_before_payload : Option Tail) → Flow
 looked_through F f p None = begun_in_payload F f p (stream_begin_in p.octets)
 looked_through F f p (Some t) = joined_to_tail F f p t
 
@@ -304,15 +307,15 @@ taken F f p =
 unfoldable pub oldest_held : (flow : Flow) → Option ℕ
 oldest_held f = oldest_index f.id f.next f.held
 
-unfoldable pub at : (flow : Flow) (index : ℕ) → Payload
+unfoldable pub at : (flow : Flow) (index_in_all_held : ℕ) → Payload
 at f index = get_or f.held index no_payload
 
 -- whether the held payload at an index is taken now
-unfoldable pub is_due : (flow : Flow) (index : ℕ) → Bool
+unfoldable pub is_due : (flow : Flow) (index_in_all_held : ℕ) → Bool
 is_due f index = not ((is_some f.live) && is_to_come f.next (at f index).number)
 
 -- the first held payload is taken while it is due, at most `count` times
-unfoldable pub drained_at_most : (reader : Reader) (count : ℕ) (flow : Flow) → Flow
+unfoldable pub drained_at_most : (reader : Reader) (most_payloads : ℕ) (flow : Flow) → Flow
 drained_at_most F zero f = f
 drained_at_most F (suc count) f =
     elim (oldest_held f) [
@@ -329,7 +332,8 @@ unfoldable pub drained_due : (reader : Reader) (flow : Flow) → Flow
 drained_due F f = drained_at_most F (length f.held) f
 
 -- whether the FIN that is kept is reached
-unfoldable pub fin_is_reached : (next : ℕ) (live : Bool) (number : Option ℕ) → Bool
+unfoldable pub fin_is_reached : (next_due_number : ℕ) (flow_is_in_step : Bool)
+    (fin_number : Option ℕ) → Bool
 fin_is_reached next live None = false
 fin_is_reached next live (Some number) = live && not (is_to_come next number)
 
@@ -355,7 +359,8 @@ gone_on_with_held F f = without_stale_fin (closed_at_fin F (drained_due F f))
 
 -- how many octets a gap passes over: all that a message lacks, if they are fewer than 2^31 and a
 -- payload at `number` begins no further on than they end
-unfoldable pub passable_octets : (next number : ℕ) (count : Option ℕ) → Option ℕ
+unfoldable pub passable_octets : (next_due_number held_payload_number : ℕ)
+    (octets_message_lacks : Option ℕ) → Option ℕ
 passable_octets next number None = None
 passable_octets next number (Some count) =
     cond (nat_lt count (2 ^ 31) && not (is_to_come (onward next count) number)) (Some count) None
@@ -371,7 +376,7 @@ octets_passed_over F f =
 
 -- the live stream closes, and the flow waits for the next one `count` octets after the number that
 -- is due
-abbrev pub awaiting_stream : (flow : Flow) (count : ℕ) → Flow
+abbrev pub awaiting_stream : (flow : Flow) (octets_to_pass_over : ℕ) → Flow
 awaiting_stream f count = record (closed f Gap) {
   next = onward f.next count;
   live = Some (onward f.next count);
@@ -380,7 +385,7 @@ awaiting_stream f count = record (closed f Gap) {
 
 -- the live stream closes, and the flow waits for the next one at the end of the message, or is no
 -- longer in step
-unfoldable pub closed_for_gap : (flow : Flow) (count : Option ℕ) → Flow
+unfoldable pub closed_for_gap : (flow : Flow) (octets_to_pass_over : Option ℕ) → Flow
 closed_for_gap f None = closed f Gap
 closed_for_gap f (Some count) = awaiting_stream f count
 
@@ -389,7 +394,7 @@ with_gap F f = gone_on_with_held F (closed_for_gap f (octets_passed_over F f))
 
 -- gaps while a payload that the flow holds ends too far after the number that is due, at most
 -- `count`
-unfoldable pub within_window : (reader : Reader) (count : ℕ) (flow : Flow) → Flow
+unfoldable pub within_window : (reader : Reader) (most_gaps : ℕ) (flow : Flow) → Flow
 within_window F zero f = f
 within_window F (suc count) f =
     elim (holds_beyond_window f.id f.next f.held)
@@ -406,7 +411,7 @@ payload_came F f p =
     (within_window F (length f.held + 1) (gone_on_with_held F (with_held f q)))
 
 -- a FIN comes, with the number after the payload of its segment
-unfoldable pub fin_came : (reader : Reader) (flow : Flow) (number : ℕ) → Flow
+unfoldable pub fin_came : (reader : Reader) (flow : Flow) (number_after_payload : ℕ) → Flow
 fin_came F f number =
     cond (is_some f.live && nat_eq (age f.next number) 0)
     (gone_on_with_held F (record f { fin = Some number })) f
@@ -416,19 +421,20 @@ abbrev pub second : ℕ
 second = 1000000000
 
 -- how many nanoseconds packet `now` came after packet `since`; None if one of the two has no time
-abbrev pub nanoseconds_since : (since now : origin.Arrival) → Option ℕ
+abbrev pub nanoseconds_since : (earlier_packet later_packet : origin.Arrival) → Option ℕ
 nanoseconds_since since now =
     elim since.time [ None ↦ None | Some before ↦ option_map (λ time. time - before) now.time ]
 
 -- whether a packet acknowledges octets after the number that is due
-abbrev pub acknowledges : (packet : Heard) (next : ℕ) → Bool
+abbrev pub acknowledges : (packet : Heard) (next_due_number : ℕ) → Bool
 acknowledges h next = elim h.acknowledged [ None ↦ false | Some number ↦ is_to_come next number ]
 
 -- Whether, after a packet, the octets are given up that are missing before a payload that came in
 -- packet `since`. If they are acknowledged, they were received: they are given up when the other
 -- side sends octets, or after a second. All others are given up after 30 seconds. If a time isn't
 -- known, it is as if a second had passed.
-abbrev pub gives_up : (packet : Heard) (next : ℕ) (since : origin.Arrival) → Bool
+abbrev pub gives_up : (packet : Heard) (next_due_number : ℕ)
+    (packet_of_held_payload : origin.Arrival) → Bool
 gives_up h next since =
     elim (nanoseconds_since since h.arrival) [
       | None ↦ acknowledges h next
@@ -441,16 +447,16 @@ unfoldable pub is_lost : (packet : Heard) (flow : Flow) → Bool
 is_lost h f = elim (oldest_held f) [ None ↦ false | Some i ↦ gives_up h f.next (at f i).arrival ]
 
 -- a packet of the flow's connection came: gaps while what is missing is given up, at most `count`
-unfoldable pub heard : (reader : Reader) (count : ℕ) (packet : Heard) (flow : Flow) → Flow
+unfoldable pub heard : (reader : Reader) (most_gaps : ℕ) (packet : Heard) (flow : Flow) → Flow
 heard F zero h f = f
 heard F (suc count) h f =
     elim (is_lost h f) [ true ↦ heard F count h (with_gap F f) | false ↦ f ]
 
 -- what comes for a flow
 pub data Arrival : Type 0 where
-  Octets : ℕ → List ℕ → origin.Arrival → Arrival
-  End : ℕ → Arrival
-  Hears : Heard → Arrival
+  Octets : (first_octet_number : ℕ) → (octets : List ℕ) → (packet : origin.Arrival) → Arrival
+  End : (number_after_payload : ℕ) → Arrival
+  Hears : (packet : Heard) → Arrival
 
 unfoldable pub step : (reader : Reader) (flow : Flow) (arrival : Arrival) → Flow
 step F f (Octets n octets arrival) = payload_came F f (payload f.id n octets arrival)
@@ -463,7 +469,8 @@ after F f [] = f
 after F f (c ∷ cs) = after F (step F f c) cs
 
 -- a flow for which nothing has come, and the number that is due in it
-abbrev pub fresh : (id number : ℕ) (held : List Payload) (events : List Event) → Flow
+abbrev pub fresh : (flow_id next_due_number : ℕ) (held_by_all_flows : List Payload)
+    (events_so_far : List Event) → Flow
 fresh id number held events = record {
   id = id;
   next = number;
@@ -479,13 +486,14 @@ fresh id number held events = record {
 }
 
 -- a flow for which its first payload has come: the number of this payload was due
-unfoldable pub first_payload : (reader : Reader) (id number : ℕ) (octets : List ℕ)
-    (arrival : origin.Arrival) (held : List Payload) (events : List Event) → Flow
+unfoldable pub first_payload : (reader : Reader) (flow_id first_octet_number : ℕ) (octets : List ℕ)
+    (arrival : origin.Arrival) (held_by_all_flows : List Payload) (events_so_far : List Event) →
+    Flow
 first_payload F id number octets arrival held events =
     payload_came F (fresh id number held events) (payload id number octets arrival)
 
 -- the payloads that other flows hold
-unfoldable pub held_by_others : (id : ℕ) (payloads : List Payload) → List Payload
+unfoldable pub held_by_others : (flow_id : ℕ) (payloads : List Payload) → List Payload
 held_by_others id [] = []
 held_by_others id (p ∷ ps) =
     cond (nat_eq p.flow id) (held_by_others id ps) (p ∷ held_by_others id ps)

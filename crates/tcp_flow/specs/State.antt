@@ -4,7 +4,8 @@ use Rattle.tcp_flow.specs.declared.flow.FlowState.{FlowState}
 use Rattle.tcp_waiting.specs.Payload.{Payload}
 use Rattle.tcp_flow.specs.Flow.{Flow, Event}
 
-abbrev pub state : (flow : FlowState) (held : List Payload) (events : List Event) → Flow
+abbrev pub state : (flow_in_code : FlowState) (held_by_all_flows : List Payload)
+    (events_so_far : List Event) → Flow
 state s held events = record {
   id = s.id;
   next = s.next;
@@ -21,8 +22,7 @@ state s held events = record {
 
 -- the code has this flow: what is held is what the flow holds, and the listener has observed all
 -- that has happened
-pub record IsState (Observed : List Event → Type 0) (kept : FlowState) (held : List Payload)
-    (f : Flow)
-    : Type 0 where
-  pub observed : Observed f.events
-  pub same : state kept held f.events ≡ f
+pub record IsState (Observed : List Event → Type 0) (flow_in_code : FlowState)
+    (held_in_code : List Payload) (flow : Flow) : Type 0 where
+  pub observed : Observed flow.events
+  pub same : state flow_in_code held_in_code flow.events ≡ flow

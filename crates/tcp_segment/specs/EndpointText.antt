@@ -12,16 +12,18 @@ use Rattle.tcp_segment.specs.declared.endpoint.Address.TheVariants.{V4, V6}
 use Rattle.tcp_segment.specs.declared.endpoint.Endpoint.{Endpoint}
 
 -- from an index on, this number of groups are zeros
-abbrev pub AreZeros : (groups : List ℕ) (start count : ℕ) → Type 0
+abbrev pub AreZeros : (groups : List ℕ) (first_index group_count : ℕ) → Type 0
 AreZeros groups at count = (k : ℕ) → at ≤ k → k < at + count → slice_index groups k ≡ 0
 
 -- the run of zeros that `::` stands for is the longest one, and the first one if several are
 -- equally long (RFC 5952, Choice in Placement of "::")
-pub record IsLongestRun (groups : List ℕ) (start len : ℕ) : Type 0 where
-  pub within : start + len ≤ length groups
-  pub zeros : AreZeros groups start len
-  pub longest : (at count : ℕ) → at + count ≤ length groups → AreZeros groups at count → count ≤ len
-  pub first : (at : ℕ) → at + len ≤ length groups → AreZeros groups at len → start ≤ at
+pub record IsLongestRun (groups : List ℕ) (run_start run_length : ℕ) : Type 0 where
+  pub within : run_start + run_length ≤ length groups
+  pub zeros : AreZeros groups run_start run_length
+  pub longest : (at count : ℕ) → at + count ≤ length groups → AreZeros groups at count →
+      count ≤ run_length
+  pub first : (at : ℕ) → at + run_length ≤ length groups → AreZeros groups at run_length →
+      run_start ≤ at
 
 abbrev pub address_text : Address → List ℕ
 address_text (V4 octets) = ipv4_text octets

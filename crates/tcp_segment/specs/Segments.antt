@@ -41,21 +41,21 @@ flow_of datagram = record {
 -- ---- The header.
 
 -- whether the control bits have this one, by its weight
-abbrev pub has_flag : (flags flag : ℕ) → Bool
+abbrev pub has_flag : (control_bits bit_weight : ℕ) → Bool
 has_flag flags flag = not (bit_and flags flag == 0)
 
 -- the data offset, in words of four octets, and at least 20 octets; there is none if the segment
 -- doesn't hold the whole header
-abbrev pub header_size : (octets : List ℕ) → Option ℕ
+abbrev pub header_size : (segment_octets : List ℕ) → Option ℕ
 header_size octets =
     let size = slice_index octets 12 / 16 * 4 in
     provided (nat_le 20 size && nat_le size (length octets)) (Some size)
 
 -- the acknowledgement number, if ACK says that there is one
-abbrev pub acknowledgement_of : (octets : List ℕ) → Option ℕ
+abbrev pub acknowledgement_of : (segment_octets : List ℕ) → Option ℕ
 acknowledgement_of octets = provided (has_flag (slice_index octets 13) 16) (Some (four_at 8 octets))
 
-abbrev pub segment_behind : (datagram : Datagram) (header : ℕ) → Segment
+abbrev pub segment_behind : (datagram : Datagram) (header_octet_count : ℕ) → Segment
 segment_behind datagram header = record {
   flow = flow_of datagram;
   sequence = four_at 4 datagram.octets;
@@ -67,14 +67,14 @@ segment_behind datagram header = record {
 }
 
 -- the segment that an IP packet carries, if it goes between two different endpoints
-unfoldable pub segment_in : Datagram → Option Segment
+unfoldable pub segment_in : (datagram_if_endpoints_differ : Datagram) → Option Segment
 segment_in datagram = do
   header ← header_size datagram.octets
   let flow = flow_of datagram
   provided (not (is_same_endpoint flow.from flow.to)) (Some (segment_behind datagram header))
 
 -- the segment in a packet of a capture, by the link type of its interface
-unfoldable pub segment : (link : ℕ) (octets : List ℕ) → Option Segment
+unfoldable pub segment : (link_type : ℕ) (frame_octets : List ℕ) → Option Segment
 segment link octets = do
   packet ← packet_of link octets
   datagram ← datagram_of packet

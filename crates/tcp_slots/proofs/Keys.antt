@@ -1,11 +1,12 @@
 -- The keys of slots in an order.
-use Rattle.std.proofs.Common.{◌≡◌, ℕ, zero, suc, ◌+◌, ◌<◌, ◌≤◌, true, true≢false, List, [], ◌∷◌, ◌++◌, length, get_or, set, Option, Some, None, is_some, refl, sym, ap, ◌∙◌, subst, arith, inl, inr, Ordering, Less, Equal, Greater}
+use Rattle.std.proofs.Common.{◌≡◌, ℕ, zero, suc, ◌+◌, ◌<◌, ◌≤◌, true, true≢false, List, [], ◌∷◌, ◌++◌, length, get_or, set, Option, Some, None, is_some, refl, sym, ap, ◌∙◌, subst, arith, inl, inr, Ordering, Less, Greater}
 use Rattle.std.specs.List.{insert, remove, AllByRecursion}
 use Rattle.std.specs.Option.{option_to_list}
 use Rattle.std.specs.List.{AllWithin}
 use Rattle.std.specs.List.Sorted.{IsNonDecreasingBy}
 use Rattle.std.specs.Ordering.{ordering_index}
 use Rattle.std.proofs.lemmas.List.{get_or-set_same, get_or-set_other, get_or_past}
+use Rattle.std.proofs.lemmas.List.Elements.{All-from_recursion}
 use Rattle.std.proofs.lemmas.Bool.{cases_eq, cases_lt}
 use Rattle.tcp_slots.specs.Table.{keys_of}
 
@@ -29,20 +30,18 @@ module _ {K : Type 0} where
       (keys_of last slots ≡ []) × (length (keys_of last slots) ≡ length slots)
       × AllByRecursion (λ r. is_some (get_or last r None) ≡ true) slots
   unfolding keys_of
-  none_known last slots e = subst (λ rs. (keys_of last rs ≡ [])
-      × (length (keys_of last rs) ≡ length rs)
-      × AllByRecursion (λ r. is_some (get_or last r None) ≡ true) rs) (sym e) (refl, refl, tt)
+  none_known last slots e = rw e (refl, refl, tt)
 
   -- the key at an index is that of the slot at this index
   pub key_at : (last : List (Option K)) (slots : List ℕ) (index : ℕ) (k d : K) →
       AllByRecursion (λ slot. is_some (get_or last slot None) ≡ true) slots → index < length slots →
       get_or last (get_or slots index 0) None ≡ Some k → k ≡ get_or (keys_of last slots) index d
   unfolding keys_of
-  key_at last [] index k d h l e = absurd (omega (arith, l))
+  key_at last [] index k d h l e = absurd (omega arith)
   key_at last (r ∷ rs) zero k d h l e = rw e refl
   key_at last (r ∷ rs) (suc index) k d h l e =
       let j = one (get_or last r None) h.0 in
-      rw j.1 (key_at last rs index k d h.1 (omega (arith, l)) e)
+      rw j.1 (key_at last rs index k d h.1 (omega arith) e)
 
   -- the keys stay if that of another slot is written
   same_keys : (last : List (Option K)) (slots : List ℕ) (slot : ℕ) (k : K) →
@@ -53,7 +52,7 @@ module _ {K : Type 0} where
   same_keys last (r ∷ rs) slot k h =
       let e = get_or-set_other last slot r (Some k) None (h 0 (omega arith)) in
       rw e (ap (λ l. option_to_list (get_or last r None) ++ l)
-      (same_keys last rs slot k (λ index l. h (suc index) (omega (arith, l)))))
+      (same_keys last rs slot k (λ index l. h (suc index) (omega arith))))
 
   -- after a key was added
   pub keys_insert : (last : List (Option K)) (slots : List ℕ) (index slot : ℕ) (k : K) →
@@ -66,12 +65,12 @@ module _ {K : Type 0} where
   keys_insert last slots zero slot k h b l f =
       let e = get_or-set_same last slot (Some k) None b in
       rw e (ap (λ l. k ∷ l) (same_keys last slots slot k f))
-  keys_insert last [] (suc index) slot k h b l f = absurd (omega (arith, l))
+  keys_insert last [] (suc index) slot k h b l f = absurd (omega arith)
   keys_insert last (r ∷ rs) (suc index) slot k h b l f =
       let j = one (get_or last r None) h.0 in
       let e = get_or-set_other last slot r (Some k) None (f 0 (omega arith)) in
-      rw e (rw j.1 (ap (λ l. j.0 ∷ l) (keys_insert last rs index slot k h.1 b (omega (arith, l))
-      (λ index l. f (suc index) (omega (arith, l))))))
+      rw e (rw j.1 (ap (λ l. j.0 ∷ l) (keys_insert last rs index slot k h.1 b (omega arith)
+      (λ index l. f (suc index) (omega arith)))))
 
   -- after a key was removed
   pub keys_remove : (last : List (Option K)) (slots : List ℕ) (index : ℕ) →
@@ -127,27 +126,23 @@ module _ {K : Type 0} where
       AllByRecursion (λ r. is_some (get_or last r None) ≡ true) slots → index < length slots →
       (get_or slots index 0 < length last)
       × (is_some (get_or last (get_or slots index 0) None) ≡ true)
-  known_at last [] index h l = absurd (omega (arith, l))
-  known_at last (r ∷ rs) zero h l = (
-    elim (cases_lt r (length last)) [
-      | inl b ↦ b
-      | inr g ↦ absurd (true≢false (sym h.0 ∙ ap is_some (get_or_past last r None g)))
-    ],
-    h.0,
-  )
-  known_at last (r ∷ rs) (suc index) h l = known_at last rs index h.1 (omega (arith, l))
+  known_at last slots index h l =
+      let s = All-from_recursion (λ r. is_some (get_or last r None) ≡ true) slots h index 0 l in (
+        elim (cases_lt (get_or slots index 0) (length last)) [
+          | inl b ↦ b
+          | inr g ↦ absurd (true≢false (sym s
+              ∙ ap is_some (get_or_past last (get_or slots index 0) None g)))
+        ],
+        s,
+      )
 
 -- ---- What is left to search in a binary search.
 
 low_end : (o : Ordering) → ordering_index o ≤ 0 → o ≡ Less
-low_end Less h = refl
-low_end Equal h = absurd (omega (arith, h))
-low_end Greater h = absurd (omega (arith, h))
+low_end o h = grind (arith, h)
 
 high_end : (o : Ordering) → 2 ≤ ordering_index o → o ≡ Greater
-high_end Less h = absurd (omega (arith, h))
-high_end Equal h = absurd (omega (arith, h))
-high_end Greater h = refl
+high_end o h = grind (arith, h)
 
 module _ {X : Type 0} (ord : X → Ordering) (xs : List X) where
   -- if the answers ascend, all keys before `low` are less, and all from `high` on are greater
@@ -161,7 +156,7 @@ module _ {X : Type 0} (ord : X → Ordering) (xs : List X) where
       ((d : X) → ord (get_or xs middle d) ≡ Less) → IsLeft (middle + 1) high
   less_left low high middle l h e = record {
     less = λ up k d a b. low_end _ (subst (λ o. ordering_index (ord (get_or xs k d))
-        ≤ ordering_index o) (e d) (up k middle d (omega (arith, b)) l));
+        ≤ ordering_index o) (e d) (up k middle d (omega arith) l));
     greater = h.greater;
   }
 

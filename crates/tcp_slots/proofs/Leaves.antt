@@ -1,7 +1,9 @@
 -- Which leaves are below a node in a tree of ranks, and that the leaf that is found has the least
 -- rank.
-use Rattle.std.proofs.Common.{◌≡◌, ◌⊎◌, ℕ, zero, suc, ◌+◌, ◌-◌, ◌*◌, ◌/◌, ◌<◌, ◌≤◌, List, get_or, refl, sym, ap, ◌∙◌, subst, arith, inl, inr}
+use Rattle.std.proofs.Common.{◌≡◌, ◌⊎◌, ℕ, zero, suc, ◌+◌, ◌-◌, ◌*◌, ◌/◌, ◌<◌, ◌≤◌, List, get_or, refl, sym, ap, ◌∙◌, arith, inl, inr}
 use Rattle.std.proofs.lemmas.Bool.{cases_eq, cases_lt, cases_order}
+use Rattle.std.proofs.lemmas.List.{get_or_read}
+use Rattle.std.specs.Prelude.{min}
 use Rattle.tcp_slots.specs.Ranks.{IsTree, IsUniqueLeast}
 
 -- the node that is `t` steps above a node
@@ -17,19 +19,18 @@ pub record IsAbove (upper lower : ℕ) : Type 0 where
 up_le : (t j : ℕ) → ancestor t j ≤ j
 unfolding ancestor
 up_le zero j = omega arith
-up_le (suc t) j = let h = up_le t (j / 2) in omega (arith, h)
+up_le (suc t) j = let h = up_le t (j / 2) in omega arith
 
 up_more : (t j : ℕ) → ancestor (suc t) j ≡ ancestor t j / 2
 unfolding ancestor
 up_more zero j = refl
 up_more (suc t) j = up_more t (j / 2)
 
-up_sum : (t k j : ℕ) → ancestor (t + k) j ≡ ancestor k (ancestor t j)
+up_half : (t s j : ℕ) → t < s → ancestor s j ≤ ancestor t j / 2
 unfolding ancestor
-up_sum zero k j = let none : 0 + k ≡ k = omega arith in ap (λ (n : ℕ). ancestor n j) none
-up_sum (suc t) k j =
-    let more : suc t + k ≡ suc (t + k) = omega arith in
-    ap (λ (n : ℕ). ancestor n j) more ∙ up_sum t k (j / 2)
+up_half t zero j l = absurd (omega arith)
+up_half zero (suc s) j l = up_le s (j / 2)
+up_half (suc t) (suc s) j l = up_half t s (j / 2) (omega arith)
 
 above_itself : (i j : ℕ) → j ≡ i → IsAbove i j
 unfolding ancestor
@@ -44,17 +45,17 @@ above_child i c j e h =
     record { steps = suc h.steps; is = up_more h.steps j ∙ ap (λ (k : ℕ). k / 2) h.is ∙ e }
 
 root_above : (n j : ℕ) → j ≤ n → 1 ≤ j → IsAbove 1 j
-root_above zero j l some = absurd (omega (arith, l, some))
+root_above zero j l some = absurd (omega arith)
 root_above (suc n) j l some =
     elim (cases_eq j 1) [
       | inl e ↦ above_itself 1 j e
       | inr ne ↦ above_more 1 j
-          (root_above n (j / 2) (omega (arith, l, some)) (omega (arith, some, ne)))
+          (root_above n (j / 2) (omega arith) (omega arith))
     ]
 
 halves : (i j : ℕ) → j / 2 ≡ i → (j ≡ 2 * i) ⊎ (j ≡ 2 * i + 1)
 halves i j e =
-    elim (cases_eq j (2 * i)) [ inl o ↦ inl o | inr ne ↦ inr (omega (arith, e, ne)) ]
+    elim (cases_eq j (2 * i)) [ inl o ↦ inl o | inr ne ↦ inr (omega arith) ]
 
 -- a node below another one is below one of its children, or is the same
 below_child : (t i j : ℕ) → ancestor t j ≡ i → (j ≡ i → ⊥) →
@@ -78,18 +79,15 @@ least_by : (slots : ℕ) (nodes : List ℕ) → IsTree slots nodes → (t i j : 
     1 ≤ i →
     j < 2 * slots → get_or nodes i 0 ≤ get_or nodes j 0
 unfolding ancestor
-least_by slots nodes h zero i j e some l = subst (λ (k : ℕ). get_or nodes k 0 ≤ get_or nodes j 0) e
-    (omega arith)
+least_by slots nodes h zero i j e some l = rw (← e) (omega arith)
 least_by slots nodes h (suc t) i j e some l =
     let q : ℕ = j / 2 in
-    let high : i ≤ q = subst (λ (k : ℕ). k ≤ q) e (up_le t q) in
-    let rest = least_by slots nodes h t i q e some (omega (arith, l)) in
-    let own = h.least q (omega (arith, high, some)) (omega (arith, l)) in
+    let high : i ≤ q = omega (arith, up_le t q) in
+    let rest = least_by slots nodes h t i q e some (omega arith) in
+    let own = h.least q (omega arith) (omega arith) in
     elim (halves q j refl) [
-      | inl o ↦ subst (λ (k : ℕ). get_or nodes i 0 ≤ get_or nodes k 0) (sym o)
-          (omega (arith, rest, own))
-      | inr o ↦ subst (λ (k : ℕ). get_or nodes i 0 ≤ get_or nodes k 0) (sym o)
-          (omega (arith, rest, own))
+      | inl o ↦ rw o (omega arith)
+      | inr o ↦ rw o (omega arith)
     ]
 
 root_least : (slots : ℕ) (nodes : List ℕ) → IsTree slots nodes → (j : ℕ) → 1 ≤ j → j < 2 * slots →
@@ -118,19 +116,19 @@ leaf_of_child slots nodes i c e same h = record {
 
 leaf_of : (slots : ℕ) (nodes : List ℕ) → IsTree slots nodes → (n i : ℕ) → 2 * slots ≤ n + i →
     1 ≤ i → i < 2 * slots → HasEqualLeaf slots nodes i
-leaf_of slots nodes h zero i l some within = absurd (omega (arith, l, within))
+leaf_of slots nodes h zero i l some within = absurd (omega arith)
 leaf_of slots nodes h (suc n) i l some within =
     elim (cases_lt i slots) [
       | inl low ↦ (let own = h.least i some low in
           elim (cases_lt (get_or nodes (2 * i) 0) (get_or nodes (2 * i + 1) 0)) [
             | inl less ↦ leaf_of_child slots nodes i (2 * i) (omega arith)
-                (omega (arith, own, less))
-                (leaf_of slots nodes h n (2 * i) (omega (arith, l, some)) (omega (arith, some))
-                (omega (arith, low)))
+                (omega arith)
+                (leaf_of slots nodes h n (2 * i) (omega arith) (omega arith)
+                (omega arith))
             | inr more ↦ leaf_of_child slots nodes i (2 * i + 1) (omega arith)
-                (omega (arith, own, more))
-                (leaf_of slots nodes h n (2 * i + 1) (omega (arith, l, some)) (omega (arith, some))
-                (omega (arith, low)))
+                (omega arith)
+                (leaf_of slots nodes h n (2 * i + 1) (omega arith) (omega arith)
+                (omega arith))
           ])
       | inr high ↦ record {
         index = i;
@@ -143,22 +141,11 @@ leaf_of slots nodes h (suc n) i l some within =
 
 -- no node is below both children of a node
 no_child_both : (i j t s : ℕ) → 1 ≤ i → ancestor t j ≡ 2 * i → ancestor s j ≡ 2 * i + 1 → ⊥
-unfolding ancestor
 no_child_both i j t s some left right =
     elim (cases_order t s) [
-      | inl e ↦ (let both = ap (λ (k : ℕ). ancestor k j) e in omega (arith, both, left, right))
-      | inr (inl l) ↦ (let k : ℕ = s - t in
-          let is : t + k ≡ s = omega (arith, l) in
-          let low = up_le k (ancestor t j) in
-          let at = up_sum t k j in
-          let own = ap (λ (n : ℕ). ancestor n j) is in
-          omega (arith, low, at, own, left, right))
-      | inr (inr l) ↦ (let k : ℕ = t - s - 1 in
-          let is : s + suc k ≡ t = omega (arith, l) in
-          let low = up_le k (ancestor s j / 2) in
-          let at = up_sum s (suc k) j in
-          let own = ap (λ (n : ℕ). ancestor n j) is in
-          omega (arith, low, at, own, left, right, some))
+      | inl e ↦ omega (arith, ap (λ (k : ℕ). ancestor k j) e)
+      | inr (inl l) ↦ omega (arith, up_half t s j l)
+      | inr (inr l) ↦ omega (arith, up_half s t j l)
     ]
 
 -- a node has the least rank, and each leaf that isn't below it has a greater one
@@ -172,89 +159,72 @@ pub record LeastLeavesAreBelow (slots : ℕ) (nodes : List ℕ) (node : ℕ) : T
 pub root_leads : (slots : ℕ) (nodes : List ℕ) → 1 ≤ slots → LeastLeavesAreBelow slots nodes 1
 root_leads slots nodes some = record {
   some = omega arith;
-  within = omega (arith, some);
+  within = omega arith;
   least = refl;
-  others = λ j first last. inl (root_above j j (omega arith) (omega (arith, first, some)));
+  others = λ j first last. inl (root_above j j (omega arith) (omega arith));
 }
-
--- of the leaves below a node, those below the child of greater rank have a greater rank
-others_by : (slots : ℕ) (nodes : List ℕ) (c d j : ℕ) → IsTree slots nodes →
-    get_or nodes c 0 ≡ get_or nodes 1 0 → get_or nodes c 0 < get_or nodes d 0 → 1 ≤ d →
-    j < 2 * slots →
-    IsAbove c j ⊎ IsAbove d j → IsAbove c j ⊎ (get_or nodes 1 0 < get_or nodes j 0)
-others_by slots nodes c d j h is less some last (inl a) = inl a
-others_by slots nodes c d j h is less some last (inr a) =
-    let low = least_by slots nodes h a.steps d j a.is some last in
-    inr (omega (arith, low, is, less))
 
 swapped : {A B : Type 0} → A ⊎ B → B ⊎ A
 swapped (inl a) = inr a
 swapped (inr b) = inl b
 
-left_others : (slots : ℕ) (nodes : List ℕ) (node j : ℕ) → IsTree slots nodes → node < slots →
-    slots ≤ j → j < 2 * slots → IsAbove node j ⊎ (get_or nodes 1 0 < get_or nodes j 0)
-    → (IsAbove (2 * node) j ⊎ IsAbove (2 * node + 1) j) ⊎ (get_or nodes 1 0 < get_or nodes j 0)
-left_others slots nodes node j h low first last (inl a) =
-    inl (below_child a.steps node j a.is (λ e. omega (arith, e, low, first)))
-left_others slots nodes node j h low first last (inr l) = inr l
+-- of the leaves below a node, those below the child of greater rank have a greater rank
+child_leads : (slots : ℕ) (nodes : List ℕ) (node c d : ℕ) → IsTree slots nodes →
+    LeastLeavesAreBelow slots nodes node → node < slots →
+    get_or nodes node 0 ≡ min (get_or nodes c 0) (get_or nodes d 0) →
+    get_or nodes c 0 < get_or nodes d 0 → 1 ≤ c → c < 2 * slots → 1 ≤ d →
+    ((j : ℕ) → IsAbove node j → (j ≡ node → ⊥) → IsAbove c j ⊎ IsAbove d j) →
+    LeastLeavesAreBelow slots nodes c
+child_leads slots nodes node c d h a low own less some within some_too below = record {
+  some = some;
+  within = within;
+  least = omega arith;
+  others = λ j first last. elim (a.others j first last) [
+    | inl o ↦ elim (below j o (λ e. omega arith)) [
+      | inl u ↦ inl u
+      | inr v ↦ inr (omega (arith, least_by slots nodes h v.steps d j v.is some_too last))
+    ]
+    | inr l ↦ inr l
+  ];
+}
 
 pub left_leads : (slots : ℕ) (nodes : List ℕ) (node : ℕ) → IsTree slots nodes →
     LeastLeavesAreBelow slots nodes node → node < slots →
     get_or nodes (2 * node) 0 < get_or nodes (2 * node + 1) 0 →
     LeastLeavesAreBelow slots nodes (2 * node)
 left_leads slots nodes node h a low less =
-    let own = h.least node a.some low in
-    let is : get_or nodes (2 * node) 0 ≡ get_or nodes 1 0 = omega (arith, own, less, a.least) in
-    record {
-      some = omega (arith, a.some);
-      within = omega (arith, low);
-      least = is;
-      others = λ j first last.
-          elim (left_others slots nodes node j h low first last (a.others j first last)) [
-            | inl o ↦ others_by slots nodes (2 * node) (2 * node + 1) j h is less
-                (omega arith) last o
-            | inr l ↦ inr l
-          ];
-    }
+    child_leads slots nodes node (2 * node) (2 * node + 1) h a low (h.least node a.some low) less
+    (omega arith) (omega arith) (omega arith)
+    (λ j o ne. below_child o.steps node j o.is ne)
 
 pub right_leads : (slots : ℕ) (nodes : List ℕ) (node : ℕ) → IsTree slots nodes →
     LeastLeavesAreBelow slots nodes node → node < slots →
     get_or nodes (2 * node + 1) 0 < get_or nodes (2 * node) 0 →
     LeastLeavesAreBelow slots nodes (2 * node + 1)
 right_leads slots nodes node h a low less =
-    let own = h.least node a.some low in
-    let is : get_or nodes (2 * node + 1) 0 ≡ get_or nodes 1 0 = omega (arith, own, less, a.least) in
-    record {
-      some = omega arith;
-      within = omega (arith, low);
-      least = is;
-      others = λ j first last.
-          elim (left_others slots nodes node j h low first last (a.others j first last)) [
-            | inl o ↦ others_by slots nodes (2 * node + 1) (2 * node) j h is less
-                (omega (arith, a.some)) last (swapped o)
-            | inr l ↦ inr l
-          ];
-    }
+    child_leads slots nodes node (2 * node + 1) (2 * node) h a low
+    (omega (arith, h.least node a.some low)) less (omega arith) (omega arith)
+    (omega arith) (λ j o ne. swapped (below_child o.steps node j o.is ne))
 
 leaf_only : (slots node j : ℕ) → slots ≤ node → j < 2 * slots → (j ≡ node → ⊥) → (t : ℕ) →
     ancestor t j ≡ node → ⊥
 unfolding ancestor
 leaf_only slots node j high last other zero e = other e
 leaf_only slots node j high last other (suc t) e =
-    let low = up_le t (j / 2) in omega (arith, low, e, high, last)
+    let low = up_le t (j / 2) in omega arith
 
 -- a leaf that leads is that of the first slot
 pub leaf_first : (slots : ℕ) (nodes : List ℕ) (node slot : ℕ) →
     LeastLeavesAreBelow slots nodes node →
     slots + slot ≡ node → IsUniqueLeast slots nodes slot
 leaf_first slots nodes node slot a e = record {
-  within = omega (arith, a.within, e);
+  within = omega arith;
   least = λ other within apart.
-      elim (a.others (slots + other) (omega arith) (omega (arith, within))) [
-        | inl o ↦ absurd (leaf_only slots node (slots + other) (omega (arith, e))
-            (omega (arith, within)) (λ same. apart (omega (arith, same, e))) o.steps o.is)
+      elim (a.others (slots + other) (omega arith) (omega arith)) [
+        | inl o ↦ absurd (leaf_only slots node (slots + other) (omega arith)
+            (omega arith) (λ same. apart (omega arith)) o.steps o.is)
         | inr l ↦ (let at = ap (λ (k : ℕ). get_or nodes k 0) e in
-            omega (arith, l, at, a.least))
+            omega arith)
       ];
 }
 
@@ -266,12 +236,12 @@ first_leaf slots nodes slot index h f first last same =
     elim (cases_eq index (slots + slot)) [
       | inl e ↦ e
       | inr ne ↦ (let other : ℕ = index - slots in
-          let at : slots + other ≡ index = omega (arith, first) in
-          let less = f.least other (omega (arith, last, first)) (λ e. ne (omega (arith, e, at))) in
+          let at : slots + other ≡ index = omega arith in
+          let less = f.least other (omega arith) (λ e. ne (omega arith)) in
           let own = ap (λ (k : ℕ). get_or nodes k 0) at in
-          let low = root_least slots nodes h (slots + slot) (omega (arith, f.within))
-          (omega (arith, f.within)) in
-          absurd (omega (arith, less, own, low, same)))
+          let low = root_least slots nodes h (slots + slot) (omega arith)
+          (omega arith) in
+          absurd (omega arith))
     ]
 
 -- no slot is the first if both children of a node that leads have the same rank
@@ -281,14 +251,23 @@ pub none_first : (slots : ℕ) (nodes : List ℕ) (node : ℕ) → IsTree slots 
     IsUniqueLeast slots nodes slot → ⊥
 none_first slots nodes node h a low same slot f =
     let own = h.least node a.some low in
-    let l = leaf_of slots nodes h (2 * slots) (2 * node) (omega arith) (omega (arith, a.some))
-    (omega (arith, low)) in
+    let l = leaf_of slots nodes h (2 * slots) (2 * node) (omega arith) (omega arith)
+    (omega arith) in
     let r = leaf_of slots nodes h (2 * slots) (2 * node + 1) (omega arith) (omega arith)
-    (omega (arith, low)) in
+    (omega arith) in
     let left = first_leaf slots nodes slot l.index h f l.first l.last
-    (omega (arith, l.same, own, same, a.least)) in
+    (omega arith) in
     let right = first_leaf slots nodes slot r.index h f r.first r.last
-    (omega (arith, r.same, own, same, a.least)) in
+    (omega arith) in
     no_child_both node (slots + slot) l.above.steps r.above.steps a.some
     (ap (λ (k : ℕ). ancestor l.above.steps k) (sym left) ∙ l.above.is)
     (ap (λ (k : ℕ). ancestor r.above.steps k) (sym right) ∙ r.above.is)
+
+-- the ranks of the two children, as they were read
+pub children : (slots : ℕ) (nodes : List ℕ) (node l r : ℕ) → IsTree slots nodes → node < slots →
+    l ≡ get_or nodes (2 * node) l → r ≡ get_or nodes (2 * node + 1) r →
+    (get_or nodes (2 * node) 0 ≡ l) × (get_or nodes (2 * node + 1) 0 ≡ r)
+children slots nodes node l r h low is_l is_r = (
+  sym (get_or_read nodes (2 * node) l (omega arith) is_l 0),
+  sym (get_or_read nodes (2 * node + 1) r (omega arith) is_r 0),
+)

@@ -20,12 +20,12 @@ pub record HaveMemory {Z : Type 0} (blocks : List (VecDeque ℕ Z)) : Type 0 whe
   pub each : AllByRecursion (λ b. 1024 ≤ deque_capacity b) blocks
 
 -- each row is full, apart from the last one that isn't empty
-unfoldable pub IsFilled : (rows : List (List ℕ)) → Type 0
+unfoldable pub IsFilled : (slots_by_block : List (List ℕ)) → Type 0
 IsFilled [] = Unit {0}
 IsFilled (r ∷ rs) = (length r ≤ 1024) × (length r < 1024 → concat rs ≡ []) × IsFilled rs
 
 -- the same, but one row has a free place
-unfoldable pub HasGap : (gap : ℕ) (rows : List (List ℕ)) → Type 0
+unfoldable pub HasGap : (block_with_gap : ℕ) (slots_by_block : List (List ℕ)) → Type 0
 HasGap gap [] = ⊥
 HasGap zero (r ∷ rs) = (length r < 1024) × (suc (length r) < 1024 → concat rs ≡ []) × IsFilled rs
 HasGap (suc gap) (r ∷ rs) = (length r ≡ 1024) × HasGap gap rs

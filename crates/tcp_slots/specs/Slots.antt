@@ -2,6 +2,6 @@
 use Rattle.std.specs.Prelude.{ℕ, zero, suc, List, [], ◌∷◌, ◌++◌}
 
 -- the slots below a number, in ascending order
-unfoldable pub slots_below : (count : ℕ) → List ℕ
+unfoldable pub slots_below : (bound : ℕ) → List ℕ
 slots_below zero = []
 slots_below (suc count) = slots_below count ++ count ∷ []

@@ -1,48 +1,33 @@
 -- The flows of the live streams have ids, and no id comes twice, so there is room for them.
-use Rattle.std.proofs.Common.{◌≡◌, ℕ, ◌<◌, ◌≤◌, Bool, true, false, cond, eqb, nat_eq, nat_lt, List, [], ◌∷◌, ◌++◌, length, sym, subst, arith, inl, inr, length-append}
+use Rattle.std.proofs.Common.{◌≡◌, ℕ, ◌<◌, ◌≤◌, true, false, eqb, nat_eq, nat_lt, List, [], ◌∷◌, ◌++◌, length, sym, arith, inl, inr, length-append}
 use Rattle.std.specs.List.{AllByRecursion, IsDistinct, list_any}
-use Rattle.std.proofs.lemmas.Bool.{cases_Bool, cond-true, cond-false, eqb-true, eq-eqb, ne_eqb, or_cases, ltb-true}
+use Rattle.std.proofs.lemmas.Bool.{cond_both, eqb-true, eqb-false, ne_eqb, or_cases, ltb-true}
+use Rattle.std.proofs.lemmas.List.Elements.{All-from_recursion, recursion_from_All, All-push}
 use Rattle.std.proofs.lemmas.Map.Steps.{length-le_from_distinct_below}
 use Rattle.tcp_flow.specs.declared.flow.CloseCause.{CloseCause}
 use Rattle.tcp_flow.specs.declared.flow.CloseCause.TheVariants.{Fin, Reset, Syn, Fault, Gap, Room, End}
 use Rattle.tcp_streams.specs.Lives.{without, with_begun, with_closed, most_ids, AreIds}
 
 eqb_comm_false : (m n : ℕ) → eqb m n ≡ false → eqb n m ≡ false
-eqb_comm_false m n h = ne_eqb n m (λ e. absurd
-    (let t : eqb m n ≡ true = eq-eqb m n (sym e) in both m n t h))
-  where
-    both : (m n : ℕ) → eqb m n ≡ true → eqb m n ≡ false → ⊥
-    both m n t f = cc
+eqb_comm_false m n h = ne_eqb n m (λ e. eqb-false m n h (sym e))
 
 pub push_all : (P : ℕ → Type 0) (xs : List ℕ) (x : ℕ) → AllByRecursion P xs → P x →
     AllByRecursion P (xs ++ x ∷ [])
-push_all P [] x h p = (p, tt)
-push_all P (y ∷ ys) x h p = (h.0, push_all P ys x h.1 p)
-
-all_case : (P : ℕ → Type 0) (x : ℕ) (xs ys : List ℕ) (b : Bool) → P x → AllByRecursion P xs →
-    AllByRecursion P ys → AllByRecursion P (cond b xs (x ∷ ys))
-all_case P x xs ys true p h g = h
-all_case P x xs ys false p h g = (p, g)
+push_all P xs x h p =
+    recursion_from_All P (xs ++ x ∷ []) (All-push P xs x (All-from_recursion P xs h) p)
 
 pub all_without : (P : ℕ → Type 0) (n : ℕ) (xs : List ℕ) → AllByRecursion P xs →
     AllByRecursion P (without n xs)
 unfolding without
 all_without P n [] h = tt
-all_without P n (x ∷ xs) h = all_case P x xs (without n xs) (nat_eq x n) h.0 h.1
-    (all_without P n xs h.1)
-
-distinct_case : (x : ℕ) (xs ys : List ℕ) (b : Bool) → IsDistinct eqb xs →
-    AllByRecursion (λ y. eqb x y ≡ false) ys → IsDistinct eqb ys →
-    IsDistinct eqb (cond b xs (x ∷ ys))
-unfolding IsDistinct
-distinct_case x xs ys true h a d = h
-distinct_case x xs ys false h a d = (a, d)
+all_without P n (x ∷ xs) h = cond_both (nat_eq x n) xs (x ∷ without n xs) (AllByRecursion P)
+    (λ e. h.1) (λ e. (h.0, all_without P n xs h.1))
 
 pub distinct_without : (n : ℕ) (xs : List ℕ) → IsDistinct eqb xs → IsDistinct eqb (without n xs)
 unfolding without IsDistinct
 distinct_without n [] h = tt
-distinct_without n (x ∷ xs) h = distinct_case x xs (without n xs) (nat_eq x n) h.1
-    (all_without (λ y. eqb x y ≡ false) n xs h.0) (distinct_without n xs h.1)
+distinct_without n (x ∷ xs) h = cond_both (nat_eq x n) xs (x ∷ without n xs) (IsDistinct eqb)
+    (λ e. h.1) (λ e. (all_without (λ y. eqb x y ≡ false) n xs h.0, distinct_without n xs h.1))
 
 -- if the ids differ, an id that is taken away isn't among the others
 pub none_left : (n : ℕ) (xs : List ℕ) → IsDistinct eqb xs →
@@ -50,17 +35,8 @@ pub none_left : (n : ℕ) (xs : List ℕ) → IsDistinct eqb xs →
 unfolding without IsDistinct
 none_left n [] h = tt
 none_left n (x ∷ xs) h =
-    elim (cases_Bool (nat_eq x n)) [
-      | inl e ↦
-          (let own : x ≡ n = eqb-true x n e in
-          subst (λ (ys : List ℕ). AllByRecursion (λ y. eqb n y ≡ false) ys)
-          (sym (cond-true (nat_eq x n) xs (x ∷ without n xs) e))
-          (subst (λ (m : ℕ). AllByRecursion (λ y. eqb m y ≡ false) xs) own h.0))
-      | inr e ↦
-          subst (λ (ys : List ℕ). AllByRecursion (λ y. eqb n y ≡ false) ys)
-          (sym (cond-false (nat_eq x n) xs (x ∷ without n xs) e))
-          (eqb_comm_false x n e, none_left n xs h.1)
-    ]
+    cond_both (nat_eq x n) xs (x ∷ without n xs) (AllByRecursion (λ y. eqb n y ≡ false))
+    (λ e. rw (eqb-true x n e) at h.0) (λ e. (eqb_comm_false x n e, none_left n xs h.1))
 
 pub distinct_push : (xs : List ℕ) (x : ℕ) → IsDistinct eqb xs →
     AllByRecursion (λ y. eqb x y ≡ false) xs → IsDistinct eqb (xs ++ x ∷ [])
@@ -76,31 +52,26 @@ below_any : (n : ℕ) (xs : List ℕ) (q : ℕ) → AllByRecursion (λ x. x < n)
 below_any n [] q h e = cc
 below_any n (x ∷ xs) q h e =
     elim (or_cases (eqb q x) (list_any (eqb q) xs) e) [
-      | inl a ↦ subst (λ (m : ℕ). m < n) (sym (eqb-true q x a)) h.0
+      | inl a ↦ omega (arith, eqb-true q x a)
       | inr a ↦ below_any n xs q h.1 a
-    ]
-
--- the same after an id was taken away and was added at the end again
-pub again_ids : (id : ℕ) (xs : List ℕ) → id < most_ids → AreIds xs →
-    AreIds (without id xs ++ id ∷ [])
-again_ids id xs l h = (
-  push_all (λ x. x < most_ids) (without id xs) id
-      (all_without (λ x. x < most_ids) id xs h.0) l,
-  distinct_push (without id xs) id (distinct_without id xs h.1) (none_left id xs h.1),
-)
-
-pub begun_ids : (id : ℕ) (xs : List ℕ) → AreIds xs → AreIds (with_begun id xs)
-unfolding with_begun
-begun_ids id xs h =
-    elim (cases_Bool (nat_lt id most_ids)) [
-      | inl e ↦ subst AreIds (sym (cond-true (nat_lt id most_ids) (without id xs ++ id ∷ []) xs e))
-          (again_ids id xs (ltb-true id most_ids e) h)
-      | inr e ↦ subst AreIds (sym (cond-false (nat_lt id most_ids) (without id xs ++ id ∷ []) xs e))
-          h
     ]
 
 pub without_ids : (id : ℕ) (xs : List ℕ) → AreIds xs → AreIds (without id xs)
 without_ids id xs h = (all_without (λ x. x < most_ids) id xs h.0, distinct_without id xs h.1)
+
+-- the same after an id was taken away and was added at the end again
+again_ids : (id : ℕ) (xs : List ℕ) → id < most_ids → AreIds xs →
+    AreIds (without id xs ++ id ∷ [])
+again_ids id xs l h =
+    let rest = without_ids id xs h in (
+      push_all (λ x. x < most_ids) (without id xs) id rest.0 l,
+      distinct_push (without id xs) id rest.1 (none_left id xs h.1),
+    )
+
+pub begun_ids : (id : ℕ) (xs : List ℕ) → AreIds xs → AreIds (with_begun id xs)
+unfolding with_begun
+begun_ids id xs h = cond_both (nat_lt id most_ids) (without id xs ++ id ∷ []) xs AreIds
+    (λ e. again_ids id xs (ltb-true id most_ids e) h) (λ e. h)
 
 -- there is room for one more id after the flow's own was taken away
 pub fewer_ids : (id : ℕ) (xs : List ℕ) → id < most_ids → AreIds xs →
@@ -110,7 +81,7 @@ fewer_ids id xs l h =
     let all : length (without id xs ++ id ∷ []) ≤ most_ids =
     length-le_from_distinct_below (without id xs ++ id ∷ []) most_ids again.1
     (λ q e. below_any most_ids (without id xs ++ id ∷ []) q again.0 e) in
-    omega (arith, all, length-append (without id xs) (id ∷ []))
+    omega (arith, length-append (without id xs) (id ∷ []))
 
 pub none_ids : AreIds []
 unfolding IsDistinct

@@ -30,13 +30,14 @@ AreIds ids = AllByRecursion (λ id. id < most_ids) ids × IsDistinct eqb ids
 
 -- the flows of the streams after a stream has begun: its flow comes last, and nowhere else. A
 -- number that is no id changes nothing
-unfoldable pub with_begun : (id : ℕ) (live : List ℕ) → List ℕ
+unfoldable pub with_begun : (begun_flow_id : ℕ) (live_flow_ids : List ℕ) → List ℕ
 with_begun id live = cond (nat_lt id most_ids) (without id live ++ id ∷ []) live
 
 -- the flows of the streams after a stream was closed. If a gap closed it, its flow keeps its place,
 -- since the flow may wait for its next stream and hold octets of it. If the end of the capture
 -- closed it, its flow keeps its place too, so that the order stays while all streams are closed
-abbrev pub with_closed : (id : ℕ) (close_cause : CloseCause) (live : List ℕ) → List ℕ
+abbrev pub with_closed : (closed_flow_id : ℕ) (close_cause : CloseCause) (live_flow_ids : List ℕ) →
+    List ℕ
 with_closed id Gap live = live
 with_closed id Fin live = without id live
 with_closed id Reset live = without id live
@@ -46,7 +47,7 @@ with_closed id Room live = without id live
 with_closed id End live = live
 
 -- the flows of the streams after one more event
-unfoldable pub lives_behind : (live : List ℕ) (event : Event) → List ℕ
+unfoldable pub lives_behind : (flow_ids_before : List ℕ) (event : Event) → List ℕ
 lives_behind live (Opens id endpoints) = live
 lives_behind live (Begins id start) = with_begun id live
 lives_behind live (Delivers id octets) = live
@@ -54,7 +55,7 @@ lives_behind live (Closes id cause) = with_closed id cause live
 lives_behind live (OfCapture event) = live
 
 -- the flows of the streams after all events, if these were the flows before them
-unfoldable pub lives_from : (live : List ℕ) (events : List Event) → List ℕ
+unfoldable pub lives_from : (flow_ids_before : List ℕ) (events : List Event) → List ℕ
 lives_from live [] = live
 lives_from live (e ∷ es) = lives_from (lives_behind live e) es
 
@@ -65,7 +66,7 @@ lives events = lives_from [] events
 
 -- the side of the first of these flows that belongs to this slot; the side of the lesser endpoint
 -- if none does
-unfoldable pub elder_side : (slot : ℕ) (numbers : List ℕ) → Side
+unfoldable pub elder_side : (slot : ℕ) (flow_ids_in_order : List ℕ) → Side
 elder_side slot [] = FromLesser
 elder_side slot (id ∷ ids) =
     cond (nat_eq id (flow_id slot FromLesser)) FromLesser

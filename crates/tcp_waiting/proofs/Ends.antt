@@ -1,14 +1,14 @@
 -- How far the payloads of a flow reach: what is known of this stays true, and holds for another
 -- number that is due.
-use Rattle.std.proofs.Common.{◌≡◌, ◌⊎◌, ℕ, zero, suc, ◌^◌, ◌<◌, ◌≤◌, Bool, true, false, cond, not, nat_eq, nat_lt, ◌&&◌, List, [], ◌∷◌, length, get_or, set, Option, Some, None, refl, ap, sym, subst, arith, inl, inr}
+use Rattle.std.proofs.Common.{◌≡◌, ◌⊎◌, ℕ, zero, suc, ◌^◌, ◌<◌, ◌≤◌, Bool, false, not, nat_eq, ◌&&◌, List, [], ◌∷◌, length, get_or, set, Option, Some, None, refl, ap, sym, ◌∙◌, arith, inl, inr}
 use Rattle.std.specs.List.{insert, remove}
-use Rattle.std.specs.Option.{option_map}
-use Rattle.std.proofs.lemmas.Bool.{eqb-false, ne_eqb, ltb-true, ltb-false, and_right}
+use Rattle.std.proofs.lemmas.Bool.{cases_eq, cases_lt, ne_eqb, and_right}
+use Rattle.std.proofs.lemmas.List.{get_or-set_same, get_or-set_other, get_or_past, length-set}
 use Rattle.std.proofs.lemmas.Option.{none-some}
-use Rattle.tcp_waiting.specs.Numbers.{ahead, rank}
-use Rattle.tcp_waiting.specs.Payload.{Payload, oldest_with, oldest_index, holds_beyond_window, ends_beyond_window, holds_as_long}
+use Rattle.tcp_waiting.specs.Numbers.{ahead}
+use Rattle.tcp_waiting.specs.Payload.{Payload, no_payload, holds_beyond_window, ends_beyond_window, holds_as_long}
 use Rattle.tcp_waiting.specs.Layout.{AreSmall, holds_beyond_window_but}
-use Rattle.tcp_waiting.proofs.Order.{same_at}
+use Rattle.tcp_waiting.proofs.Order.{IsFirst}
 
 -- whether a payload of the flow is one of those that end too far
 abbrev pub is_other_beyond_window : (id next number count : ℕ) (payload : Payload) → Bool
@@ -72,8 +72,8 @@ far_by id next number count (p ∷ ps) h =
 
 -- all payloads of a flow are ahead of `next` by less than 2^31
 abbrev pub AreAhead : (id next : ℕ) (payloads : List Payload) → Type 0
-AreAhead id next ps = (j : ℕ) (d : Payload) → j < length ps → (get_or ps j d).flow ≡ id →
-    ahead next (get_or ps j d).number < 2 ^ 31
+AreAhead id next ps = (j : ℕ) → j < length ps → (get_or ps j no_payload).flow ≡ id →
+    ahead next (get_or ps j no_payload).number < 2 ^ 31
 
 pub far_on : (id base next number count : ℕ) (ps : List Payload) → next < 2 ^ 32 →
     ahead base next ≤ 2 ^ 31 → AreSmall ps → AreAhead id next ps
@@ -86,101 +86,32 @@ far_on id base next number count (p ∷ ps) n a s c h = grind (
   n,
   a,
   s.0.number,
-  c 0 p (omega arith),
+  c 0 (omega arith),
   h,
-  far_on id base next number count ps n a s.1 (λ j d l own. c (suc j) d (omega (arith, l)) own),
+  far_on id base next number count ps n a s.1 (λ j l own. c (suc j) (omega arith) own),
 )
 
--- ---- What the first payload of a flow says of all.
-
--- no payload of the flow has a lesser rank than the one at an index; if there is none, the flow
--- holds nothing
-abbrev pub NoneIsOlder : (id next : ℕ) (payloads : List Payload) (index : Option ℕ) → Type 0
-NoneIsOlder id next ps None = (j : ℕ) (d : Payload) → j < length ps → (get_or ps j d).flow ≡ id → ⊥
-NoneIsOlder id next ps (Some i) = (i < length ps) × ((j : ℕ) (d : Payload) → j < length ps →
-    (get_or ps j d).flow ≡ id → rank next (get_or ps i d).number ≤ rank next (get_or ps j d).number)
-
-in_each : (id : ℕ) (p : Payload) (ps : List Payload) (Q : ℕ → Payload → Payload → Type 0) →
-    ((d : Payload) → p.flow ≡ id → Q 0 d p)
-    → ((j : ℕ) (d : Payload) → j < length ps → (get_or ps j d).flow ≡ id
-    → Q (suc j) d (get_or ps j d))
-    → (j : ℕ) (d : Payload) → j < length (p ∷ ps) → (get_or (p ∷ ps) j d).flow ≡ id
-    → Q j d (get_or (p ∷ ps) j d)
-in_each id p ps Q q h zero d l own = q d own
-in_each id p ps Q q h (suc j) d l own = h j d (omega (arith, l)) own
-
-least_by : (id next : ℕ) (p : Payload) (ps : List Payload) (c : Bool) (r : Option ℕ) →
-    (c ≡ false → p.flow ≡ id → ⊥) → NoneIsOlder id next ps r
-    → NoneIsOlder id next (p ∷ ps) (cond c (oldest_with next p ps r) (option_map suc r))
-unfolding oldest_with
-least_by id next p ps true None n h = (
-  omega arith,
-  in_each id p ps (λ j d q. rank next p.number ≤ rank next q.number) (λ d own. omega arith)
-      (λ j d l own. absurd (h j d l own)),
-)
-least_by id next p ps true (Some k) n h =
-    elim (nat_lt (rank next (get_or ps k p).number) (rank next p.number)) as
-    (λ b. nat_lt (rank next (get_or ps k p).number) (rank next p.number) ≡ b →
-    NoneIsOlder id next (p ∷ ps) (cond b (Some (suc k)) (Some 0))) [
-      | true ↦ (λ e. (
-        omega (arith, h.0),
-        in_each id p ps (λ j d q. rank next (get_or ps k d).number ≤ rank next q.number)
-            (λ d own. omega (
-              arith,
-              ltb-true (rank next (get_or ps k p).number) (rank next p.number) e,
-              ap (λ (q : Payload). rank next q.number) (same_at ps k d p h.0),
-            )) h.1,
-      ))
-      | false ↦ (λ e. (
-        omega arith,
-        in_each id p ps (λ j d q. rank next p.number ≤ rank next q.number) (λ d own. omega arith)
-            (λ j d l own. omega (
-              arith,
-              ltb-false (rank next (get_or ps k p).number) (rank next p.number) e,
-              ap (λ (q : Payload). rank next q.number) (same_at ps k d p h.0),
-              h.1 j d l own,
-            )),
-      ))
-    ] refl
-least_by id next p ps false None n h =
-    in_each id p ps (λ j d q. ⊥) (λ d own. n refl own) h
-least_by id next p ps false (Some k) n h = (
-  omega (arith, h.0),
-  in_each id p ps (λ j d q. rank next (get_or ps k d).number ≤ rank next q.number)
-      (λ d own. absurd (n refl own)) h.1,
-)
-
-pub first_least : (id next : ℕ) (ps : List Payload) →
-    NoneIsOlder id next ps (oldest_index id next ps)
-unfolding oldest_index
-first_least id next [] = λ j d l own. absurd (omega (arith, l))
-first_least id next (p ∷ ps) = least_by id next p ps (nat_eq p.flow id) (oldest_index id next ps)
-    (λ e own. eqb-false p.flow id e own) (first_least id next ps)
-
--- if the first is ahead, all are
-pub all_ahead : (id next : ℕ) (ps : List Payload) (i : ℕ) → oldest_index id next ps ≡ Some i →
-    ((d : Payload) → ahead next (get_or ps i d).number < 2 ^ 31) → AreAhead id next ps
-all_ahead id next ps i is h =
-    let least : NoneIsOlder id next ps (Some i) =
-    subst (λ (r : Option ℕ). NoneIsOlder id next ps r) is (first_least id next ps) in
-    λ j d l own. omega (arith, least.1 j d l own, h d)
+-- if the first payload of a flow is ahead, all are
+pub all_ahead : (id next : ℕ) (ps : List Payload) (i : ℕ) → IsFirst id next ps i →
+    ahead next (get_or ps i no_payload).number < 2 ^ 31 → AreAhead id next ps
+all_ahead id next ps i first h = λ j l own. omega (arith, (first.least j l own).0)
 
 -- ---- What is known of each flow.
-
-none_there : {X : Type 0} (j : ℕ) (x : X) → get_or [] j None ≡ Some x → ⊥
-none_there zero x h = none-some x h
-none_there (suc j) x h = none-some x h
 
 -- an element of a list after one was set: the new one, or the old one at another index
 pub set_cases : {X : Type 0} (xs : List (Option X)) (i j : ℕ) (v : Option X) (x : X) →
     get_or (set xs i v) j None ≡ Some x
     → ((j ≡ i) × (v ≡ Some x)) ⊎ ((i ≡ j → ⊥) × (get_or xs j None ≡ Some x))
-set_cases [] zero j v x h = absurd (none_there j x h)
-set_cases [] (suc i) j v x h = absurd (none_there j x h)
-set_cases (y ∷ xs) zero zero v x h = inl (refl, h)
-set_cases (y ∷ xs) zero (suc j) v x h = inr ((λ e. omega (arith, e)), h)
-set_cases (y ∷ xs) (suc i) zero v x h = inr ((λ e. omega (arith, e)), h)
-set_cases (y ∷ xs) (suc i) (suc j) v x h = elim (set_cases xs i j v x h) [
-  | inl a ↦ inl (ap suc a.0, a.1)
-  | inr b ↦ inr ((λ e. b.0 (omega (arith, e))), b.1)
-]
+set_cases xs i j v x h =
+    elim (cases_eq j i) [
+      | inl e ↦ elim (cases_lt i (length xs)) [
+        | inl l ↦ inl (
+          e,
+          sym (get_or-set_same xs i v None l)
+              ∙ ap (λ (k : ℕ). get_or (set xs i v) k None) (sym e) ∙ h,
+        )
+        | inr l ↦ absurd (none-some x (sym (get_or_past (set xs i v) j None
+            (omega (arith, length-set xs i v))) ∙ h))
+      ]
+      | inr o ↦ inr (λ e. o (sym e), sym (get_or-set_other xs i j v None o) ∙ h)
+    ]

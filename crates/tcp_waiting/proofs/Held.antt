@@ -1,7 +1,8 @@
 -- The payloads that wait, from where they are in the pool's memory.
-use Rattle.std.proofs.Common.{Result, IsOk, is_ok, cond, ◌≡◌, ℕ, zero, suc, ◌+◌, ◌<◌, ◌≤◌, List, [], ◌∷◌, ◌++◌, length, get_or, map, refl, ap, sym, ◌∙◌, arith}
+use Rattle.std.proofs.Common.{Result, IsOk, is_ok, cond, ◌≡◌, ℕ, suc, ◌+◌, ◌<◌, ◌≤◌, List, [], ◌∷◌, ◌++◌, length, get_or, map, take, drop, refl, ap, sym, ◌∙◌, arith}
 use Rattle.std.specs.List.{AllByRecursion, insert, remove}
-use Rattle.std.proofs.lemmas.List.{length-map, get_or-map, take-append-le, length-take, length-drop}
+use Rattle.std.proofs.lemmas.List.{length-map, get_or-map, map-append, take-map, drop-map, take-append-le, drop-append-le, length-take, length-drop}
+use Rattle.std.proofs.lemmas.List.Elements.{All-from_recursion, recursion_from_All, All-append, All-cons, All-take, All-drop, All-weaker}
 use Rattle.std.proofs.lemmas.Bool.{cond-true}
 use Rattle.std.proofs.Math.Seq.{drop-append_seam, take-length}
 use Rattle.tcp_waiting.specs.declared.pool.Waiting.{Waiting}
@@ -18,17 +19,11 @@ get_held all ws i w d h is = get_or-map (payload_in all) ws i w d h ∙ ap (payl
 -- mapping a list after an insertion or a removal
 pub map_insert : {X Y : Type 0} (f : X → Y) (xs : List X) (i : ℕ) (x : X) →
     map f (insert xs i x) ≡ insert (map f xs) i (f x)
-map_insert f [] zero x = refl
-map_insert f [] (suc i) x = refl
-map_insert f (y ∷ xs) zero x = refl
-map_insert f (y ∷ xs) (suc i) x = ap (λ ys. f y ∷ ys) (map_insert f xs i x)
+map_insert f xs i x = simp (map-append, take-map, drop-map)
 
 pub map_remove : {X Y : Type 0} (f : X → Y) (xs : List X) (i : ℕ) →
     map f (remove xs i) ≡ remove (map f xs) i
-map_remove f [] zero = refl
-map_remove f [] (suc i) = refl
-map_remove f (x ∷ xs) zero = refl
-map_remove f (x ∷ xs) (suc i) = ap (λ ys. f x ∷ ys) (map_remove f xs i)
+map_remove f xs i = simp (map-append, take-map, drop-map)
 
 pub remove_held : (all : List ℕ) (ws : List Waiting) (i : ℕ) →
     held_in all (remove ws i) ≡ remove (held_in all ws) i
@@ -37,28 +32,31 @@ remove_held all ws i = map_remove (payload_in all) ws i
 -- what is true of all elements is still true after an insertion or a removal
 pub all_insert : {X : Type 0} (P : X → Type 0) (xs : List X) (i : ℕ) (x : X) →
     AllByRecursion P xs → P x → AllByRecursion P (insert xs i x)
-all_insert P [] zero x h p = (p, tt)
-all_insert P [] (suc i) x h p = (p, tt)
-all_insert P (y ∷ xs) zero x h p = (p, h)
-all_insert P (y ∷ xs) (suc i) x h p = (h.0, all_insert P xs i x h.1 p)
+all_insert P xs i x h p =
+    let a = All-from_recursion P xs h in
+    recursion_from_All P (insert xs i x) (All-append P (take i xs) (x ∷ drop i xs)
+    (All-take P i xs a) (All-cons P x (drop i xs) p (All-drop P i xs a)))
 
 pub all_remove : {X : Type 0} (P : X → Type 0) (xs : List X) (i : ℕ) →
     AllByRecursion P xs → AllByRecursion P (remove xs i)
-all_remove P [] zero h = h
-all_remove P [] (suc i) h = h
-all_remove P (y ∷ xs) zero h = h.1
-all_remove P (y ∷ xs) (suc i) h = (h.0, all_remove P xs i h.1)
+all_remove P xs i h =
+    let a = All-from_recursion P xs h in
+    recursion_from_All P (remove xs i) (All-append P (take i xs) (drop (suc i) xs)
+    (All-take P i xs a) (All-drop P (suc i) xs a))
 
 pub all_at : {X : Type 0} (P : X → Type 0) (xs : List X) (i : ℕ) (x : X) →
     AllByRecursion P xs → i < length xs → P (get_or xs i x)
-all_at P [] i x h l = absurd (omega (arith, l))
-all_at P (y ∷ xs) zero x h l = h.0
-all_at P (y ∷ xs) (suc i) x h l = all_at P xs i x h.1 (omega (arith, l))
+all_at P xs i x h l = All-from_recursion P xs h i x l
+
+pub all_weaker : {X : Type 0} (P Q : X → Type 0) (xs : List X) → ((x : X) → P x → Q x) →
+    AllByRecursion P xs → AllByRecursion Q xs
+all_weaker P Q xs f h =
+    recursion_from_All Q xs (All-weaker P Q f xs (All-from_recursion P xs h))
 
 pub within_more : (top more : ℕ) (ws : List Waiting) → top ≤ more → AreWithin top ws →
     AreWithin more ws
 within_more top more [] l h = tt
-within_more top more (w ∷ ws) l h = (omega (arith, h.0), within_more top more ws l h.1)
+within_more top more (w ∷ ws) l h = (omega arith, within_more top more ws l h.1)
 
 -- a payload has as many octets as it says
 pub length_octets : (all : List ℕ) (from count : ℕ) → from + count ≤ length all →
@@ -68,9 +66,8 @@ length_octets all from count h = simp (length-take, length-drop) (omega arith)
 -- octets that are added at the end change no payload
 octets_more : (all more : List ℕ) (from count : ℕ) → from + count ≤ length all →
     octets_at (all ++ more) from count ≡ octets_at all from count
-octets_more all more zero count h = take-append-le count all more (omega (arith, h))
-octets_more [] more (suc from) count h = absurd (omega (arith, h))
-octets_more (x ∷ all) more (suc from) count h = octets_more all more from count (omega (arith, h))
+octets_more all more from count h = rw (drop-append-le from all more (omega arith))
+    (take-append-le count (drop from all) more (simp length-drop (omega arith)))
 
 pub held_more : (all more : List ℕ) (ws : List Waiting) → AreWithin (length all) ws →
     held_in (all ++ more) ws ≡ held_in all ws

@@ -8,7 +8,7 @@ use Rattle.slab.specs.Slab.{Slab, get, slab_len, with_value, Updates}
 use Rattle.slab.proofs.SlabLemmas.{Updates-with_value}
 use Rattle.tcp_waiting.specs.declared.pool.Waiting.{Waiting}
 use Rattle.tcp_waiting.specs.Places.{waiting_under, IsOrderOfSlab}
-use Rattle.tcp_waiting.proofs.Held.{map_insert, map_remove, all_insert, all_remove, all_at}
+use Rattle.tcp_waiting.proofs.Held.{map_insert, map_remove, all_insert, all_remove, all_at, all_weaker}
 
 -- a number differs from all of these
 abbrev pub IsNoneOf : (number : ℕ) (numbers : List ℕ) → Type 0
@@ -19,11 +19,6 @@ pub some_so : {X : Type 0} (o : Option X) (P : Type 0) → IsSome o → OnSome o
 some_so None P s h = absurd (cc)
 some_so (Some x) P s h = h
 
-pub all_mapped : (P Q : ℕ → Type 0) (ns : List ℕ) → ((n : ℕ) → P n → Q n) →
-    AllByRecursion P ns → AllByRecursion Q ns
-all_mapped P Q [] f h = tt
-all_mapped P Q (n ∷ ns) f h = (f n h.0, all_mapped P Q ns f h.1)
-
 pub map_same : (f g : ℕ → Waiting) (ns : List ℕ) → AllByRecursion (λ n. g n ≡ f n) ns →
     map g ns ≡ map f ns
 map_same f g [] h = refl
@@ -31,17 +26,17 @@ map_same f g (n ∷ ns) h = rw (h.0, map_same f g ns h.1) refl
 
 apart : (n : ℕ) (ns : List ℕ) → AllByRecursion (λ m. eqb n m ≡ false) ns → IsNoneOf n ns
 apart n ns h =
-    all_mapped (λ m. eqb n m ≡ false) (λ m. m ≢ n) ns (λ m e same. eqb-false n m e (sym same)) h
+    all_weaker (λ m. eqb n m ≡ false) (λ m. m ≢ n) ns (λ m e same. eqb-false n m e (sym same)) h
 
 pub map_changed : (f g : ℕ → Waiting) (ns : List ℕ) (i : ℕ) → IsDistinct eqb ns → i < length ns →
     ((m : ℕ) → m ≢ get_or ns i 0 → g m ≡ f m)
     → map g ns ≡ set (map f ns) i (g (get_or ns i 0))
 unfolding IsDistinct
-map_changed f g [] i d l o = absurd (omega (arith, l))
+map_changed f g [] i d l o = absurd (omega arith)
 map_changed f g (n ∷ ns) zero d l o =
-    rw (map_same f g ns (all_mapped (λ m. m ≢ n) (λ m. g m ≡ f m) ns o (apart n ns d.0))) refl
+    rw (map_same f g ns (all_weaker (λ m. m ≢ n) (λ m. g m ≡ f m) ns o (apart n ns d.0))) refl
 map_changed f g (n ∷ ns) (suc i) d l o =
-    let within : i < length ns = omega (arith, l) in
+    let within : i < length ns = omega arith in
     let other : n ≢ get_or ns i 0 =
     λ e. all_at (λ m. m ≢ n) ns i 0 (apart n ns d.0) within (sym e) in
     rw (o n other, map_changed f g ns i d.1 within o) refl
@@ -60,7 +55,7 @@ unfolding IsDistinct
 distinct_insert [] zero n d o = (tt, tt)
 distinct_insert [] (suc i) n d o = (tt, tt)
 distinct_insert (m ∷ ns) zero n d o = (
-  all_mapped (λ k. k ≢ n) (λ k. eqb n k ≡ false) (m ∷ ns) (λ k e. ne_eqb n k (λ s. e (sym s))) o,
+  all_weaker (λ k. k ≢ n) (λ k. eqb n k ≡ false) (m ∷ ns) (λ k e. ne_eqb n k (λ s. e (sym s))) o,
   d,
 )
 distinct_insert (m ∷ ns) (suc i) n d o =
@@ -70,10 +65,10 @@ distinct_insert (m ∷ ns) (suc i) n d o =
 pub others_remove : (ns : List ℕ) (i : ℕ) → IsDistinct eqb ns → i < length ns →
     IsNoneOf (get_or ns i 0) (remove ns i)
 unfolding IsDistinct
-others_remove [] i d l = absurd (omega (arith, l))
+others_remove [] i d l = absurd (omega arith)
 others_remove (n ∷ ns) zero d l = apart n ns d.0
 others_remove (n ∷ ns) (suc i) d l =
-    let within : i < length ns = omega (arith, l) in (
+    let within : i < length ns = omega arith in (
       λ e. all_at (λ m. m ≢ n) ns i 0 (apart n ns d.0) within (sym e),
       others_remove ns i d.1 within,
     )
@@ -82,7 +77,7 @@ others_remove (n ∷ ns) (suc i) d l =
 pub vacant_others : (slots : Slab Waiting) (n : ℕ) (ns : List ℕ) → get slots n ≡ None →
     AllByRecursion (λ m. IsSome (get slots m)) ns → IsNoneOf n ns
 vacant_others slots n ns e h =
-    all_mapped (λ m. IsSome (get slots m)) (λ m. m ≢ n) ns
+    all_weaker (λ m. IsSome (get slots m)) (λ m. m ≢ n) ns
     (λ m s same. grind (arith, s, same, e)) h
 
 -- the slab has the same at each index of an order, if it was changed at another one
@@ -90,7 +85,7 @@ others_same : (old new : Slab Waiting) (n : ℕ) (slot : Option Waiting) (ns : L
     Updates old new n slot → IsNoneOf n ns
     → AllByRecursion (λ m. get new m ≡ get old m) ns
 others_same old new n slot ns u o =
-    all_mapped (λ m. m ≢ n) (λ m. get new m ≡ get old m) ns (λ m e. u.others m e) o
+    all_weaker (λ m. m ≢ n) (λ m. get new m ≡ get old m) ns (λ m e. u.others m e) o
 
 held_same : (old new : Slab Waiting) (ns : List ℕ) →
     AllByRecursion (λ m. get new m ≡ get old m) ns
@@ -123,7 +118,7 @@ is_put order now old new i n w t l e v u c =
         distinct = distinct_insert order i n t.distinct others;
         held = all_insert (λ m. IsSome (get new m)) order i n
             (held_same old new order same t.held) (rw u.changed refl);
-        counted = omega (arith, c, t.counted, length-insert order i n l);
+        counted = omega (arith, length-insert order i n l);
       };
       items = map_insert (waiting_under new) order i n
           ∙ rw (u.changed, map_under old new order same) refl;
@@ -147,7 +142,7 @@ is_taken order now old new i t l e u c =
       tied = record {
         distinct = distinct_remove order i t.distinct;
         held = held_same old new (remove order i) same held;
-        counted = omega (arith, c, t.counted, length-remove order i l);
+        counted = omega (arith, length-remove order i l);
       };
       items = map_under old new (remove order i) same
           ∙ map_remove (waiting_under old) order i;
@@ -170,7 +165,7 @@ all_held_with : (old : Slab Waiting) (n : ℕ) (w : Waiting) (ns : List ℕ) →
     → AllByRecursion (λ m. IsSome (get (with_value old n w) m)) ns
 all_held_with old n w ns here h =
     let u = Updates-with_value old n w here in
-    all_mapped (λ m. IsSome (get old m)) (λ m. IsSome (get (with_value old n w) m)) ns
+    all_weaker (λ m. IsSome (get old m)) (λ m. IsSome (get (with_value old n w) m)) ns
     (λ m s. elim (cases_eq m n) [
       | inl e ↦ rw (e, u.changed) refl
       | inr o ↦ rw (u.others m o) s

@@ -1,11 +1,13 @@
 -- Copying the payloads without holes: each keeps its octets.
 use Rattle.std.proofs.Common.{◌≡◌, ℕ, zero, suc, ◌+◌, ◌-◌, ◌*◌, ◌<◌, ◌≤◌, List, [], ◌∷◌, ◌++◌, length, take, drop, get_or, set, refl, ap, sym, ◌∙◌, subst, arith, length-append, append_assoc, append-nil, add-zero, add-one}
 use Rattle.std.proofs.lemmas.List.{take_more, length-take, length-drop, get_or-append_right, get_or-drop}
+use Rattle.std.proofs.lemmas.List.Elements.{All-from_recursion, recursion_from_All, All-take}
 use Rattle.std.proofs.Math.Seq.{take-append_seam, drop-append_seam, drop-cons, set-append_seam, take-length, drop-length}
 use Rattle.tcp_waiting.specs.declared.pool.Waiting.{Waiting}
 use Rattle.tcp_waiting.specs.Payload.{Payload, blocks_of}
 use Rattle.tcp_waiting.specs.Layout.{octets_at, held_in, AreWithin, AreSmall, packed, placed_from, total_octets}
 use Rattle.tcp_waiting.proofs.Held.{length_octets, within_more}
+use Rattle.tcp_waiting.proofs.Queries.{here}
 
 length_packed : (all : List ℕ) (ws : List Waiting) → AreWithin (length all) ws →
     length (packed all ws) ≡ total_octets ws
@@ -82,7 +84,7 @@ counts_blocks all (w ∷ ws) h =
 pub length_blocks : (ps : List Payload) → AreSmall ps → length ps ≤ blocks_of ps
 unfolding blocks_of
 length_blocks [] h = omega arith
-length_blocks (p ∷ ps) h = omega (arith, h.0.some, length_blocks ps h.1)
+length_blocks (p ∷ ps) h = omega (arith, length_blocks ps h.1)
 
 -- the loop: `k` payloads were copied
 pub record IsPacking (all : List ℕ) (waitings : List Waiting) (copied : ℕ) (now : List ℕ)
@@ -92,17 +94,17 @@ pub record IsPacking (all : List ℕ) (waitings : List Waiting) (copied : ℕ) (
   pub moves : places ≡ placed_from 0 (take copied waitings) ++ drop copied waitings
 
 within_take : (top k : ℕ) (ws : List Waiting) → AreWithin top ws → AreWithin top (take k ws)
-within_take top zero ws h = tt
-within_take top (suc k) [] h = tt
-within_take top (suc k) (w ∷ ws) h = (h.0, within_take top k ws h.1)
+within_take top k ws h =
+    let P = λ (w : Waiting). w.from + w.count ≤ top in
+    recursion_from_All P (take k ws) (All-take P k ws (All-from_recursion P ws h))
 
 -- one more payload fits too
 pub counts_take : (k : ℕ) (ws : List Waiting) (w : Waiting) → k < length ws →
     w ≡ get_or ws k w → total_octets (take k ws) + w.count ≤ total_octets ws
 unfolding total_octets
-counts_take k [] w h is = absurd (omega (arith, h))
+counts_take k [] w h is = absurd (omega arith)
 counts_take zero (v ∷ ws) w h is = omega (arith, ap (λ (u : Waiting). u.count) is)
-counts_take (suc k) (v ∷ ws) w h is = omega (arith, counts_take k ws w (omega (arith, h)) is)
+counts_take (suc k) (v ∷ ws) w h is = omega (arith, counts_take k ws w (omega arith) is)
 
 pub length_copied : (all : List ℕ) (ws : List Waiting) (k : ℕ) (now : List ℕ)
     (places : List Waiting) → AreWithin (length all) ws → IsPacking all ws k now places
@@ -114,7 +116,7 @@ pub length_places : (all : List ℕ) (ws : List Waiting) (k : ℕ) (now : List �
     (places : List Waiting) → IsPacking all ws k now places → length places ≡ length ws
 length_places all ws k now places p =
     ap length p.moves ∙ length-append (placed_from 0 (take k ws)) (drop k ws)
-    ∙ rw (length_moved 0 (take k ws)) (simp (length-take, length-drop) (omega (arith, p.some)))
+    ∙ rw (length_moved 0 (take k ws)) (simp (length-take, length-drop) (omega arith))
 
 -- the next payload in the loop is unchanged
 pub next_of : (all : List ℕ) (ws : List Waiting) (k : ℕ) (now : List ℕ) (places : List Waiting) →
@@ -126,6 +128,13 @@ next_of all ws k now places p h w is =
     is ∙ rw p.moves (get_or-append_right (placed_from 0 (take k ws)) (drop k ws) k k w l
     (omega arith)
     ∙ get_or-drop k ws (k - k) w ∙ (let e : k + (k - k) ≡ k = omega arith in rw e refl))
+
+pub next_ends : (all : List ℕ) (ws : List Waiting) (k : ℕ) (now : List ℕ) (places : List Waiting) →
+    IsPacking all ws k now places → AreWithin (length all) ws → k < length places →
+    (w : Waiting) → w ≡ get_or places k w → w.from + w.count ≤ length all
+next_ends all ws k now places p within h w is =
+    let l : k < length ws = omega (arith, length_places all ws k now places p) in
+    (here all ws k w within l (next_of all ws k now places p l w is)).ends
 
 pub pack_step : (all : List ℕ) (ws : List Waiting) (k : ℕ) (now : List ℕ)
     (places : List Waiting) → AreWithin (length all) ws → IsPacking all ws k now places →
@@ -171,7 +180,7 @@ pub pack_end : (all : List ℕ) (ws : List Waiting) (k : ℕ) (now : List ℕ)
     (places : List Waiting) → AreWithin (length all) ws → IsPacking all ws k now places →
     length ws ≤ k → IsPacked all ws now places
 pack_end all ws k now places within p h =
-    let e : length ws ≡ k = omega (arith, h, p.some) in
+    let e : length ws ≡ k = omega arith in
     let t : take k ws ≡ ws = subst (λ (j : ℕ). take j ws ≡ ws) e (take-length ws) in
     let d : drop k ws ≡ [] = subst (λ (j : ℕ). drop j ws ≡ []) e (drop-length ws) in
     let moves : places ≡ placed_from 0 ws = p.moves ∙ rw (t, d) (append-nil (placed_from 0 ws)) in
@@ -180,6 +189,6 @@ pack_end all ws k now places within p h =
     record {
       held = rw (octets, moves) (held_moved [] all ws within);
       within = rw moves (within_more (0 + total_octets ws) (length now) (placed_from 0 ws)
-          (omega (arith, fits)) (within_moved 0 ws));
+          (omega arith) (within_moved 0 ws));
       fits = fits;
     }

@@ -1,6 +1,8 @@
 -- Searches through all payloads, from the first to the last.
-use Rattle.std.proofs.Common.{◌≡◌, ℕ, zero, suc, ◌+◌, ◌-◌, ◌/◌, ◌<◌, ◌≤◌, false, cond, nat_eq, ◌&&◌, ◌||◌, List, [], ◌∷◌, length, drop, get_or, refl, ap, sym, subst, ◌∙◌, arith, add-one}
-use Rattle.std.specs.List.{insert, remove}
+use Rattle.std.proofs.Common.{◌≡◌, ℕ, suc, ◌+◌, ◌-◌, ◌/◌, ◌<◌, ◌≤◌, false, cond, nat_eq, ◌&&◌, ◌||◌, List, [], ◌∷◌, length, drop, get_or, refl, ap, sym, subst, ◌∙◌, arith, add-one}
+use Rattle.std.specs.List.{insert, remove, sum_by}
+use Rattle.std.proofs.lemmas.List.Recursion.{is_sum_by}
+use Rattle.std.proofs.lemmas.List.Sums.{sum_by-insert, sum_by-remove}
 use Rattle.std.proofs.Math.Seq.{drop-cons}
 use Rattle.std.proofs.Math.ListN.{drop_of_length-le}
 use Rattle.tcp_waiting.specs.declared.pool.Waiting.{Waiting}
@@ -22,7 +24,7 @@ here all ws k w within h is =
     let ends : w.from + w.count ≤ length all =
     subst (λ (v : Waiting). v.from + v.count ≤ length all) (sym is)
     (all_at (λ (v : Waiting). v.from + v.count ≤ length all) ws k w within h) in
-    let h' : k < length (held_in all ws) = omega (arith, h, length_held all ws) in
+    let h' : k < length (held_in all ws) = omega (arith, length_held all ws) in
     record {
       behind =
           rw add-one (drop-cons (held_in all ws) k (payload_in all w) h'
@@ -49,7 +51,7 @@ far_turn all ws k w id next h = rw (h.behind, h.count) refl
 
 nothing_left : (all : List ℕ) (ws : List Waiting) (k : ℕ) → length ws ≤ k →
     drop k (held_in all ws) ≡ []
-nothing_left all ws k h = drop_of_length-le (held_in all ws) (omega (arith, h, length_held all ws))
+nothing_left all ws k h = drop_of_length-le (held_in all ws) (omega (arith, length_held all ws))
 
 pub far_end : (all : List ℕ) (ws : List Waiting) (k id next : ℕ) → length ws ≤ k →
     holds_beyond_window id next (drop k (held_in all ws)) ≡ false
@@ -63,30 +65,30 @@ pub since_before : (since before : ℕ) (ps : List Payload) → before ≤ since
     CameNotBefore before ps
 since_before since before [] l h = tt
 since_before since before (p ∷ ps) l h =
-    (λ came e. omega (arith, l, h.0 came e), since_before since before ps l h.1)
+    (λ came e. omega (arith, h.0 came e), since_before since before ps l h.1)
 
 pub young : (since age time : ℕ) (ps : List Payload) → time - since < age → CameNotBefore since ps →
     AreYounger age time ps
 young since age time [] l h = tt
 young since age time (p ∷ ps) l h =
-    (λ came e. omega (arith, l, h.0 came e), young since age time ps l h.1)
+    (λ came e. omega (arith, h.0 came e), young since age time ps l h.1)
+
+abbrev blocks_by : (p : Payload) → ℕ
+blocks_by p = (length p.octets + 1023) / 1024
+
+blocks_is : (ps : List Payload) → blocks_of ps ≡ sum_by blocks_by ps
+unfolding blocks_of
+blocks_is ps = is_sum_by blocks_of blocks_by refl (λ p ps. refl) ps
 
 -- the blocks after one more payload waits
 pub blocks_insert : (ps : List Payload) (i : ℕ) (p : Payload) →
     blocks_of (insert ps i p) ≡ blocks_of ps + (length p.octets + 1023) / 1024
-unfolding blocks_of
-blocks_insert [] zero p = omega arith
-blocks_insert [] (suc i) p = omega arith
-blocks_insert (q ∷ ps) zero p = omega arith
-blocks_insert (q ∷ ps) (suc i) p = omega (arith, blocks_insert ps i p)
+blocks_insert ps i p = simp blocks_is (sum_by-insert blocks_by ps i p)
 
 -- the blocks after a payload was removed
 pub blocks_remove : (ps : List Payload) (i : ℕ) (d : Payload) → i < length ps →
     blocks_of (remove ps i) + (length (get_or ps i d).octets + 1023) / 1024 ≡ blocks_of ps
-unfolding blocks_of
-blocks_remove [] i d h = absurd (omega (arith, h))
-blocks_remove (p ∷ ps) zero d h = omega arith
-blocks_remove (p ∷ ps) (suc i) d h = omega (arith, blocks_remove ps i d (omega (arith, h)))
+blocks_remove ps i d h = simp blocks_is (sum_by-remove blocks_by ps i d h)
 
 -- the blocks of a removed payload are free, from where it was in memory
 pub removed_blocks : (all : List ℕ) (ws : List Waiting) (i : ℕ) (w : Waiting) →
@@ -98,7 +100,7 @@ removed_blocks all ws i w laid h is =
     let count : length (get_or (held_in all ws) i d).octets ≡ w.count =
     ap (λ (p : Payload). length p.octets) (get_held all ws i w d h is) ∙ at.count in
     rw (remove_held all ws i, ← count) (blocks_remove (held_in all ws) i d
-    (omega (arith, h, length_held all ws)))
+    (omega (arith, length_held all ws)))
 
 -- the load of a flow, from an index on
 pub load_turn : (all : List ℕ) (ws : List Waiting) (k : ℕ) (w : Waiting) (id : ℕ) →

@@ -9,10 +9,10 @@ use Rattle.tcp_waiting.specs.declared.pool.KnownEnds.{KnownEnds}
 use Rattle.tcp_waiting.specs.declared.pool.Waiting.{Waiting}
 use Rattle.tcp_waiting.specs.declared.pool.Pool.TheInside.{Inside}
 
-abbrev pub octets_at : (all : List ℕ) (from count : ℕ) → List ℕ
+abbrev pub octets_at : (memory : List ℕ) (offset octet_count : ℕ) → List ℕ
 octets_at all from count = take count (drop from all)
 
-abbrev pub payload_in : (all : List ℕ) (waiting : Waiting) → Payload
+abbrev pub payload_in : (memory : List ℕ) (waiting : Waiting) → Payload
 payload_in all w =
     payload w.flow w.number (octets_at all w.from w.count) (record {
       time = w.time;
@@ -21,11 +21,11 @@ payload_in all w =
     })
 
 -- the payloads, with their octets taken from the memory
-abbrev pub held_in : (all : List ℕ) (waitings : List Waiting) → List Payload
+abbrev pub held_in : (memory : List ℕ) (waitings : List Waiting) → List Payload
 held_in all waitings = map (payload_in all) waitings
 
 -- the octets of each payload are within the memory
-abbrev pub AreWithin : (top : ℕ) (waitings : List Waiting) → Type 0
+abbrev pub AreWithin : (memory_size : ℕ) (waitings : List Waiting) → Type 0
 AreWithin top waitings = AllByRecursion (λ w. w.from + w.count ≤ top) waitings
 
 -- a payload that may wait: it has an octet, and its number and its length are less than 2^32
@@ -43,13 +43,14 @@ AreOrdered [] = Unit {0}
 AreOrdered (p ∷ ps) = AllByRecursion (λ q. key_of p ≤ key_of q) ps × AreOrdered ps
 
 -- whether the payload at a place is one of this flow
-abbrev pub is_of_flow_at : (place id : ℕ) (payloads : List Payload) → Bool
+abbrev pub is_of_flow_at : (place flow_id : ℕ) (payloads : List Payload) → Bool
 is_of_flow_at place id payloads =
     nat_lt place (length payloads) && nat_eq (get_or payloads place no_payload).flow id
 
 -- whether a flow holds a payload that ends more than W after `next`, other than those with this
 -- number and length
-unfoldable pub holds_beyond_window_but : (id next number count : ℕ) (payloads : List Payload) → Bool
+unfoldable pub holds_beyond_window_but : (flow_id next excepted_number excepted_octet_count : ℕ)
+    (payloads : List Payload) → Bool
 holds_beyond_window_but id next number count [] = false
 holds_beyond_window_but id next number count (p ∷ ps) =
     (nat_eq p.flow id && not (nat_eq p.number number && nat_eq (length p.octets) count)
@@ -68,17 +69,18 @@ pub record IsRoomy (inside : Inside) : Type 0 where
   pub fits : length inside.octets.items ≤ 1024 * (inside.blocks + 256)
 
 -- for each flow below the length of `loads`, how many blocks it holds
-abbrev pub CountLoads : (loads : List ℕ) (held : List Payload) → Type 0
+abbrev pub CountLoads : (loads_by_flow : List ℕ) (held : List Payload) → Type 0
 CountLoads loads held =
     (flow : ℕ) → flow < length loads → get_or loads flow 0 ≡ load_of flow held
 
 -- what is known of the ends of each flow's payloads is true
-abbrev pub AreTrueEnds : (nears : List (Option KnownEnds)) (held : List Payload) → Type 0
+abbrev pub AreTrueEnds : (known_ends_by_flow : List (Option KnownEnds)) (held : List Payload) →
+    Type 0
 AreTrueEnds nears held = (flow : ℕ) (n : KnownEnds) → get_or nears flow None ≡ Some n →
     holds_beyond_window_but flow n.base n.number n.count held ≡ false
 
 -- no payload came before this time, as far as it is known when
-abbrev pub CameNotBefore : (since : ℕ) (payloads : List Payload) → Type 0
+abbrev pub CameNotBefore : (earliest_time : ℕ) (payloads : List Payload) → Type 0
 CameNotBefore since payloads =
     AllByRecursion (λ p. (came : ℕ) → p.arrival.time ≡ Some came → since ≤ came) payloads
 
@@ -93,7 +95,7 @@ pub record IsSoundPool (inside : Inside) : Type 0 where
   pub since : CameNotBefore inside.since (held_in inside.octets.items inside.waiting.items)
 
 -- the octets of the payloads one after another, without holes
-unfoldable pub packed : (all : List ℕ) (waitings : List Waiting) → List ℕ
+unfoldable pub packed : (memory : List ℕ) (waitings : List Waiting) → List ℕ
 packed all [] = []
 packed all (w ∷ ws) = octets_at all w.from w.count ++ packed all ws
 

@@ -6,7 +6,7 @@ abbrev pub ahead : (next number : ℕ) → ℕ
 ahead next number = (number + (2 ^ 32 - next)) % 2 ^ 32
 
 -- the number that is `count` after a number, modulo 2^32
-abbrev pub onward : (number count : ℕ) → ℕ
+abbrev pub onward : (number octet_count : ℕ) → ℕ
 onward number count = (number + count) % 2 ^ 32
 
 -- how far a number is before `next`; 0 if it is `next` or after it

@@ -14,7 +14,8 @@ pub record Payload : Type 0 where
   pub octets : List ℕ
   pub arrival : Arrival
 
-abbrev pub payload : (flow number : ℕ) (octets : List ℕ) (arrival : Arrival) → Payload
+abbrev pub payload : (flow_id first_octet_number : ℕ) (octets : List ℕ) (arrival : Arrival) →
+    Payload
 payload flow number octets arrival =
     record { flow = flow; number = number; octets = octets; arrival = arrival }
 
@@ -23,12 +24,12 @@ abbrev pub no_payload : Payload
 no_payload = payload 0 0 [] (record { time = None; packet = 0 })
 
 -- a payload without its first `count` octets
-abbrev pub without_first : (count : ℕ) (payload : Payload) → Payload
+abbrev pub without_first : (octet_count : ℕ) (payload : Payload) → Payload
 without_first count p = record p { number = onward p.number count; octets = drop count p.octets }
 
 -- the order of payloads as one number: by flow, then by the number of the first octet, then by the
 -- length, which is less than 2^32
-abbrev pub key : (flow number count : ℕ) → ℕ
+abbrev pub key : (flow_id first_octet_number octet_count : ℕ) → ℕ
 key flow number count = (flow * 2 ^ 32 + number) * 2 ^ 32 + count
 
 abbrev pub key_of : (payload : Payload) → ℕ
@@ -49,22 +50,22 @@ window = 1048576
 
 -- the index of the payload of least rank that a flow holds; the first of them in order if several
 -- have it
-unfoldable pub oldest_with : (next : ℕ) (payload : Payload) (payloads : List Payload)
-    (index : Option ℕ) → Option ℕ
+unfoldable pub oldest_with : (next : ℕ) (payload_in_front : Payload)
+    (payloads_behind : List Payload) (oldest_index_behind : Option ℕ) → Option ℕ
 oldest_with next p payloads None = Some 0
 oldest_with next p payloads (Some index) =
     cond (nat_lt (rank next (get_or payloads index p).number) (rank next p.number))
     (Some (suc index))
     (Some 0)
 
-unfoldable pub oldest_index : (id next : ℕ) (payloads : List Payload) → Option ℕ
+unfoldable pub oldest_index : (flow_id next : ℕ) (payloads : List Payload) → Option ℕ
 oldest_index id next [] = None
 oldest_index id next (p ∷ ps) =
     cond (nat_eq p.flow id) (oldest_with next p ps (oldest_index id next ps))
     (option_map suc (oldest_index id next ps))
 
 -- how many payloads a flow holds
-unfoldable pub count_of : (id : ℕ) (payloads : List Payload) → ℕ
+unfoldable pub count_of : (flow_id : ℕ) (payloads : List Payload) → ℕ
 count_of id [] = 0
 count_of id (p ∷ ps) = cond (nat_eq p.flow id) 1 0 + count_of id ps
 
@@ -74,30 +75,31 @@ blocks_of [] = 0
 blocks_of (p ∷ ps) = (length p.octets + 1023) / 1024 + blocks_of ps
 
 -- how many blocks the payloads of a flow take: its load
-unfoldable pub load_of : (id : ℕ) (payloads : List Payload) → ℕ
+unfoldable pub load_of : (flow_id : ℕ) (payloads : List Payload) → ℕ
 load_of id [] = 0
 load_of id (p ∷ ps) =
     cond (nat_eq p.flow id) ((length p.octets + 1023) / 1024) 0 + load_of id ps
 
 -- whether a payload ends more than W after `next`
-abbrev pub ends_beyond_window : (next number count : ℕ) → Bool
+abbrev pub ends_beyond_window : (next first_octet_number octet_count : ℕ) → Bool
 ends_beyond_window next number count = nat_lt window (ahead next number + count)
 
 -- whether a flow holds a payload that ends more than W after `next`
-unfoldable pub holds_beyond_window : (id next : ℕ) (payloads : List Payload) → Bool
+unfoldable pub holds_beyond_window : (flow_id next : ℕ) (payloads : List Payload) → Bool
 holds_beyond_window id next [] = false
 holds_beyond_window id next (p ∷ ps) =
     (nat_eq p.flow id && ends_beyond_window next p.number (length p.octets)) || holds_beyond_window
     id next ps
 
 -- whether a flow holds a payload with this number and at least this length
-unfoldable pub holds_as_long : (id number count : ℕ) (payloads : List Payload) → Bool
+unfoldable pub holds_as_long : (flow_id first_octet_number least_octet_count : ℕ)
+    (payloads : List Payload) → Bool
 holds_as_long id number count [] = false
 holds_as_long id number count (p ∷ ps) =
     (nat_eq p.flow id && nat_eq p.number number && nat_le count (length p.octets))
     || holds_as_long id number count ps
 
 -- each payload came less than `age` nanoseconds before a time, as far as it is known when
-abbrev pub AreYounger : (age time : ℕ) (payloads : List Payload) → Type 0
+abbrev pub AreYounger : (age_limit time : ℕ) (payloads : List Payload) → Type 0
 AreYounger age time payloads =
     AllByRecursion (λ p. (came : ℕ) → p.arrival.time ≡ Some came → time - came < age) payloads

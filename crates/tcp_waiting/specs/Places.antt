@@ -15,7 +15,7 @@ abbrev pub no_waiting : Waiting
 no_waiting = record { time = None; packet = 0; flow = 0; number = 0; from = 0; count = 0 }
 
 -- what a slab has at an index
-abbrev pub waiting_under : (slots : Slab Waiting) (number : ℕ) → Waiting
+abbrev pub waiting_under : (slots : Slab Waiting) (index_in_slab : ℕ) → Waiting
 waiting_under slots number = unwrap_or (get slots number) no_waiting
 
 -- the slots of the payloads in order: the last one comes first in what is kept
@@ -26,10 +26,10 @@ abbrev pub places_of : Inside → PlacesView
 places_of a = record { items = map (waiting_under a.slots) (numbers_of a); room = a.room }
 
 -- the indices of an order are distinct, and the slab has something at each of them and nothing else
-pub record IsOrderOfSlab (order : List ℕ) (slots : Slab Waiting) : Type 0 where
-  pub distinct : IsDistinct eqb order
-  pub held : AllByRecursion (λ number. IsSome (get slots number)) order
-  pub counted : slab_len slots ≡ length order
+pub record IsOrderOfSlab (slab_indices : List ℕ) (slab : Slab Waiting) : Type 0 where
+  pub distinct : IsDistinct eqb slab_indices
+  pub held : AllByRecursion (λ number. IsSome (get slab number)) slab_indices
+  pub counted : slab_len slab ≡ length slab_indices
 
 pub record AreSoundPlaces (inside : Inside) : Type 0 where
   pub tied : IsOrderOfSlab (numbers_of inside) inside.slots

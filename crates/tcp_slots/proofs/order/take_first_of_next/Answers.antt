@@ -6,12 +6,12 @@ use Rattle.tcp_slots.proofs.order.take_first_of_next.Goals as goal
 pub overflow_add-block : goal.overflow_add-block
 overflow_add-block c =
     let l = gap_block c.args.blocks.now c.args.block c.requires.gap in
-    omega (arith, l, c.requires.memory.few)
+    omega arith
 
 pub offset_bounds-blocks-block : goal.offset_bounds-blocks-block
 offset_bounds-blocks-block c =
     let l = gap_block c.args.blocks.now c.args.block c.requires.gap in
-    omega (arith, l, c.requires.memory.few)
+    omega arith
 
 pub bounds-blocks-block : goal.bounds-blocks-block
 bounds-blocks-block c =
@@ -20,18 +20,18 @@ bounds-blocks-block c =
 pub offset_bounds-blocks-block-in-Some : goal.offset_bounds-blocks-block-in-Some
 offset_bounds-blocks-block-in-Some c =
     let l = gap_block c.args.blocks.now c.args.block c.requires.gap in
-    omega (arith, l, c.requires.memory.few)
+    omega arith
 
 pub bounds-blocks-block-in-Some : goal.bounds-blocks-block-in-Some
 bounds-blocks-block-in-Some c =
     let l = gap_block c.args.blocks.now c.args.block c.requires.gap in
     let n = length-set c.args.blocks.now (c.args.block + 1) c.pop_front.new.self in
-    omega (arith, l, n)
+    omega arith
 
 pub push_back_reserved-requires : goal.push_back_reserved-requires
 push_back_reserved-requires c =
     room_at c.args.blocks.now c.args.block (c.args.block + 1) c.pop_front.new.self
-    c.index-blocks-block-in-Some.result c.requires.gap c.requires.memory (λ e. omega (arith, e))
+    c.index-blocks-block-in-Some.result c.requires.gap c.requires.memory (λ e. omega arith)
 
 pub returns-in-Some-clause-gap : goal.returns-in-Some-clause-gap
 returns-in-Some-clause-gap c = (block_passed_back c.args.blocks.now c.args.block

@@ -9,12 +9,7 @@ pub returns-then-index-wanted : goal.returns-then-index-wanted
 returns-then-index-wanted c =
     let xs = c.args.numbers.now.items in
     let i = c.loop-index.index in
-    let l : i < length xs = omega (
-      arith,
-      c.loop-index-test.true,
-      c.len.ensures,
-      c.args.numbers.now.ok.0,
-    ) in
+    let l : i < length xs = omega arith in
     let own : get_or xs i 0 ≡ c.args.wanted =
     get_or_default xs i 0 c.index.result.now l ∙ sym c.index.ensures ∙ c.if-index-wanted.true in
     let z : i + 0 ≡ i = omega arith in
@@ -25,15 +20,10 @@ pub loop-index-preserved : goal.loop-index-preserved
 loop-index-preserved c =
     let xs = c.args.numbers.now.items in
     let i = c.loop-index.index in
-    let l : i < length xs = omega (
-      arith,
-      c.loop-index-test.true,
-      c.len.ensures,
-      c.args.numbers.now.ok.0,
-    ) in
+    let l : i < length xs = omega arith in
     let at : get_or xs i 0 ≡ c.index.result.now =
     get_or_default xs i 0 c.index.result.now l ∙ sym c.index.ensures in (
-      omega (arith, l),
+      omega arith,
       c.loop-index.invariant.1
           ∙ index_later c.args.wanted xs i l (ne_eqb (get_or xs i 0) c.args.wanted
           (λ o. c.if-index-wanted.false (sym at ∙ o))),
@@ -42,9 +32,4 @@ loop-index-preserved c =
 pub returns : goal.returns
 returns c =
     sym (c.loop-index.invariant.1 ∙ rw (index_end c.args.wanted c.args.numbers.now.items
-    c.loop-index.index (omega (
-      arith,
-      c.loop-index-test.false,
-      c.len.ensures,
-      c.args.numbers.now.ok.0,
-    ))) refl)
+    c.loop-index.index (omega arith)) refl)

@@ -10,16 +10,16 @@ returns-then-left-eq0-clause-some c =
     let xs : List ℕ = c.args.ids.now.items in
     let i : ℕ = c.loop-index.index in
     let l : i < length xs =
-    omega (arith, c.loop-index-test.true, c.len.ensures, c.args.ids.now.ok.0) in
+    omega arith in
     let seen : get_or xs i 0 ≡ c.index.result.now =
     get_or_default xs i 0 c.index.result.now l ∙ sym c.index.ensures in
     let at : get_or xs i 0 ≡ c.index-then-left-eq0.result.now =
     get_or_default xs i 0 c.index-then-left-eq0.result.now l
     ∙ sym c.index-then-left-eq0.ensures in
-    let own : get_or xs i 0 < most_ids = omega (arith, c.if-index-lt-MOST_IDS.true, seen) in
+    let own : get_or xs i 0 < most_ids = omega arith in
     let is : length (ids_of (take i xs)) ≡ c.args.rank =
-    omega (arith, c.loop-index.invariant.1, c.if-left-eq0.true) in
+    omega arith in
     let less = rank_below xs i l own in (
-      omega (arith, less, is),
+      omega arith,
       sym (ap (λ (k : ℕ). get_or (ids_of xs) k 0) (sym is) ∙ rank_at xs i l own ∙ at),
     )

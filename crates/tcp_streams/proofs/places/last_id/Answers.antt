@@ -11,7 +11,7 @@ returns-then-id-lt-MOST_IDS-clause-last c =
     let e : slice_get xs (length xs - 1) ≡ Some c.in-Some.id =
     ap (λ (ys : List ℕ). slice_get ys (length ys - 1)) (sym c.deref.ensures.value)
     ∙ sym c.last.ensures.value ∙ sym c.copied.ensures ∙ c.in-Some.is in
-    sym (last_alive xs c.in-Some.id e (omega (arith, c.if-id-lt-MOST_IDS.true)))
+    sym (last_alive xs c.in-Some.id e (omega arith))
     ∙ ap (λ (ys : List ℕ). last_or None ys) c.loop-id.invariant.items
 
 pub loop-id-preserved : goal.loop-id-preserved
@@ -20,12 +20,12 @@ loop-id-preserved c =
     let e : slice_get xs (length xs - 1) ≡ Some c.in-Some.id =
     ap (λ (ys : List ℕ). slice_get ys (length ys - 1)) (sym c.deref.ensures.value)
     ∙ sym c.last.ensures.value ∙ sym c.copied.ensures ∙ c.in-Some.is in
-    let dead : most_ids ≤ c.in-Some.id = omega (arith, c.if-id-lt-MOST_IDS.false) in
+    let dead : most_ids ≤ c.in-Some.id = omega arith in
     let rest : List ℕ = take (length xs - 1) xs in
     let kept : c.pop.new.self.items ≡ rest =
-    c.pop.ensures.rest ∙ ap (λ (n : ℕ). take (n - 1) xs) (omega (arith, c.loop-id.ids.ok.0)) in
+    c.pop.ensures.rest ∙ ap (λ (n : ℕ). take (n - 1) xs) (omega arith) in
     let many : length rest ≡ c.len-front.result =
-    omega (arith, c.len-front.ensures, c.pop.new.self.ok.0, ap length kept) in
+    omega (arith, ap length kept) in
     record {
       items = ap ids_of kept ∙ last_dead xs c.in-Some.id e dead ∙ c.loop-id.invariant.items;
       queue = λ stamps h.

@@ -8,4 +8,4 @@ returns-clause-queue c =
     rw (c.note.ensures, c.push_reserved.ensures.items) (pushed c.args.flow c.len.result xs
     c.args.stamps.now.flows.items c.args.front.now.places c.args.front.now.count
     c.requires.queue c.requires.id c.requires.apart c.requires.room
-    (omega (arith, c.len.ensures, c.push_reserved.ensures.len)))
+    (omega arith))

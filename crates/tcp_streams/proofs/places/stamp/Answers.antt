@@ -4,7 +4,7 @@ use Rattle.tcp_streams.proofs.places.stamp.Goals as goal
 
 pub loop-index-preserved : goal.loop-index-preserved
 loop-index-preserved c = (
-  omega (arith, c.loop-index-test.true, c.len.ensures, c.args.ids.now.ok.0),
+  omega arith,
   rw c.note.ensures (stamped_note c.loop-index.stamps.flows.items c.index.result.now
       (c.loop-index.index + 1) c.args.ids.now.items (omega arith) c.loop-index.invariant.1),
 )

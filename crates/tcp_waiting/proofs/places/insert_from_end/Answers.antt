@@ -7,4 +7,4 @@ returns-clause-items c =
     let order = c.args.order.now.items in
     ap reverse c.insert.ensures.items
     ∙ reverse_insert order c.args.place (c.len.result - c.args.place) c.args.slot
-    (omega (arith, c.requires.place, c.len.ensures.items))
+    (omega arith)

@@ -8,7 +8,7 @@ returns-clause-items c =
     let order = c.args.order.now.items in
     ap reverse c.remove.ensures.items
     ∙ reverse_remove order c.args.place (c.len.result - 1 - c.args.place)
-    (omega (arith, c.requires, c.len.ensures.items))
+    (omega arith)
 
 pub returns-clause-slot : goal.returns-clause-slot
 returns-clause-slot c =

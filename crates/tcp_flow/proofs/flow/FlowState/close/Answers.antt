@@ -3,7 +3,7 @@ use Rattle.std.proofs.lemmas.Bool.{cond-true, cond-false}
 use Rattle.tcp_flow.specs.Flow.{with_event, lives, out_of_step, stream_closed, closed}
 use Rattle.tcp_flow.specs.State.{state, IsState}
 use Rattle.tcp_flow.proofs.States.{by_state}
-use Rattle.tcp_flow.proofs.Truth.{true_keeps}
+use Rattle.tcp_flow.proofs.Truth.{closed_true}
 use Rattle.tcp_flow.proofs.flow.FlowState.close.Goals as goal
 
 pub returns-in_ok-on_close-clause-does : goal.returns-in_ok-on_close-clause-does
@@ -30,8 +30,8 @@ returns-else-is_live-clause-does g c held f h =
 
 pub returns-in_ok-on_close-clause-gapless : goal.returns-in_ok-on_close-clause-gapless
 returns-in_ok-on_close-clause-gapless g c payloads held f h t =
-    (true_keeps g.T.Listener.reader payloads).closes f c.args.cause t
+    closed_true payloads f c.args.cause t
 
 pub returns-else-is_live-clause-gapless : goal.returns-else-is_live-clause-gapless
 returns-else-is_live-clause-gapless g c payloads held f h t =
-    (true_keeps g.T.Listener.reader payloads).closes f c.args.cause t
+    closed_true payloads f c.args.cause t

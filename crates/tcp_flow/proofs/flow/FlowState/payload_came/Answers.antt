@@ -35,7 +35,7 @@ returns-clause-gapless g c payloads f h t =
     (payload_came F f (payload f.id n octets arrival))) _ c.args.self.now c.args.pool.now.held f h
     (λ events o u.
     came_true F payloads (state c.args.self.now c.args.pool.now.held events)
-    (payload c.args.self.now.id n octets arrival) (omega arith) u) t
+    (payload c.args.self.now.id n octets arrival) refl (omega arith) u) t
 
 pub returns-clause-room : goal.returns-clause-room
 returns-clause-room g c f h =

@@ -1,4 +1,4 @@
-use Rattle.std.proofs.Common.{◌≡◌, sym, ◌∙◌, true≢false}
+use Rattle.std.proofs.Common.{sym, ◌∙◌, true≢false}
 use Rattle.tcp_flow.proofs.Early.{timeless_kept, young_kept}
 use Rattle.tcp_flow.proofs.hearing.Heard.surely_gives_up_nothing.Goals as goal
 

@@ -9,14 +9,14 @@ pub index-requires : goal.index-requires
 index-requires c =
     let b = block_of c.self.inside.blocks.items c.args.index c.self.invariant.filled
     (subst (λ (v : OrderView). c.args.index < length v.items) (sym c.self.view_is) c.requires) in
-    omega (arith, b, c.self.inside.blocks.ok.0)
+    omega arith
 
 pub index-requires-2 : goal.index-requires-2
 index-requires-2 c =
     let s = stands c.self.inside.blocks.items c.args.index 0 c.index.result.now
     c.self.invariant.filled
     (subst (λ (v : OrderView). c.args.index < length v.items) (sym c.self.view_is) c.requires) in
-    let e = ap deque_len c.index.ensures in omega (arith, s.0, e)
+    let e = ap deque_len c.index.ensures in omega arith
 
 pub returns : goal.returns
 returns c =
@@ -25,7 +25,7 @@ returns c =
     (subst (λ (v : OrderView). c.args.index < length v.items) (sym c.self.view_is) c.requires) in
     let e = ap deque_len c.index.ensures in
     let inside : c.args.index % 1024 < length c.index.result.now.items =
-    omega (arith, s.0, e, c.index.result.now.ok.0) in
+    omega arith in
     get_or_read c.index.result.now.items (c.args.index % 1024) c.index-2.result.now inside
     c.index-2.ensures 0
     ∙ ap (λ b. get_or b.items (c.args.index % 1024) 0) c.index.ensures ∙ sym s.1

@@ -10,8 +10,6 @@ returns-clause-small c =
     let blocks = c.self.inside.blocks.items in
     omega (
       arith,
-      c.self.invariant.counted,
       most_filled (rows_of blocks) c.self.invariant.filled,
       length-map blocks deque_items,
-      c.self.invariant.memory.few,
     )

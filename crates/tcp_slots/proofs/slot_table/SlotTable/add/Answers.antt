@@ -13,12 +13,12 @@ invariant_of-self g c =
     let last = set c.self.inside.last.items c.args.slot (Some c.args.key) in
     let n = length-set c.self.inside.last.items c.args.slot (Some c.args.key) in
     let known = known_insert c.self.inside.last.items c.self.inside.order.items c.args.index
-    c.args.slot c.args.key i.known (omega (arith, slot, i.keys)) in
+    c.args.slot c.args.key i.known (omega arith) in
     let all = subst (AllByRecursion (λ r. is_some (get_or last r None) ≡ true))
     (sym c.insert.ensures.items) known in record {
       few = i.few;
-      memory = omega (arith, i.memory, c.insert.ensures.most);
-      keys = omega (arith, i.keys, n);
+      memory = omega arith;
+      keys = omega arith;
       as_many = as_many last c.insert.new.self.items all;
       known = all;
     }
@@ -34,5 +34,5 @@ returns-clause-keys g c =
     (sym c.self.view_is) c.requires.slot in
     ap (keys_of (set c.self.inside.last.items c.args.slot (Some c.args.key))) c.insert.ensures.items
     ∙ keys_insert c.self.inside.last.items c.self.inside.order.items c.args.index c.args.slot
-    c.args.key i.known (omega (arith, slot, i.keys)) (omega (arith, index, i.as_many)) free
+    c.args.key i.known (omega arith) (omega arith) free
     ∙ ap (λ (v : TableView g.row.K.Denot). insert v.keys c.args.index c.args.key) c.self.view_is

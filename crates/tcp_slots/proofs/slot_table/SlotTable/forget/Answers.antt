@@ -11,7 +11,7 @@ invariant_of-self g c =
     (sym c.remove.ensures.items) (known_remove c.self.inside.last.items
     c.self.inside.order.items c.args.index i.known) in record {
       few = i.few;
-      memory = omega (arith, i.memory, c.remove.ensures.most);
+      memory = omega arith;
       keys = i.keys;
       as_many = as_many c.self.inside.last.items c.remove.new.self.items all;
       known = all;

@@ -11,9 +11,9 @@ returns g c d =
     let within = subst (λ (v : TableView g.row.K.Denot). c.args.index < length v.keys)
     (sym c.self.view_is) c.requires in
     let inside : c.args.index < length slots =
-    omega (arith, within, c.self.invariant.as_many) in
+    omega arith in
     let known = (known_at last slots c.args.index c.self.invariant.known inside).0 in
-    let is = get_or_read last c.at.result c.index.result.now (omega (arith, known, c.at.ensures))
+    let is = get_or_read last c.at.result c.index.result.now (omega arith)
     c.index.ensures None in
     key_at last slots c.args.index c.in-Some.key d c.self.invariant.known inside
     (ap (λ n. get_or last n None) (sym c.at.ensures) ∙ sym is ∙ c.in-Some.is)

@@ -11,9 +11,9 @@ use Rattle.tcp_streams.proofs.queue.Queue.begin.Goals as goal
 pub make_free_place-requires-clause-fewer : goal.make_free_place-requires-clause-fewer
 make_free_place-requires-clause-fewer c =
     let xs : List ℕ = ids_of c.self.inside.ids.items in
-    let fewer = fewer_ids c.args.flow xs (omega (arith, c.if-flow-lt-MOST_IDS.true))
+    let fewer = fewer_ids c.args.flow xs (omega arith)
     (all_ids c.self.inside.ids.items, c.self.invariant.queue.distinct) in
-    omega (arith, fewer, ap length c.take_away.ensures.items)
+    omega (arith, ap length c.take_away.ensures.items)
 
 pub push-requires-clause-apart : goal.push-requires-clause-apart
 push-requires-clause-apart c =
@@ -29,7 +29,7 @@ returns-then-flow-lt-MOST_IDS c =
     c.push.ensures.items ∙ ap (λ (ys : List ℕ). ys ++ id ∷ [])
     (c.make_free_place.ensures.items ∙ c.take_away.ensures.items)
     ∙ sym (cond-true (nat_lt id most_ids) (without id xs ++ id ∷ []) xs
-    (lt-ltb id most_ids (omega (arith, c.if-flow-lt-MOST_IDS.true))))
+    (lt-ltb id most_ids (omega arith)))
     ∙ ap (λ (v : QueueView). with_begun id v.items) c.self.view_is
 
 pub returns-else-flow-lt-MOST_IDS : goal.returns-else-flow-lt-MOST_IDS
@@ -38,4 +38,4 @@ returns-else-flow-lt-MOST_IDS c =
     let xs : List ℕ = c.args.self.now.items in
     let id : ℕ = c.args.flow in
     sym (cond-false (nat_lt id most_ids) (without id xs ++ id ∷ []) xs
-    (le-ltb id most_ids (omega (arith, c.if-flow-lt-MOST_IDS.false))))
+    (le-ltb id most_ids (omega arith)))

@@ -14,5 +14,5 @@ returns-clause-items c = c.last_id.ensures.items
 pub invariant_of-self : goal.invariant_of-self
 invariant_of-self c = record {
   queue = c.last_id.ensures.queue c.self.inside.stamps.flows.items c.self.invariant.queue;
-  room = omega (arith, c.last_id.ensures.capacity, c.self.invariant.room);
+  room = omega arith;
 }

@@ -8,25 +8,18 @@ overflow_add-result c =
     let a = c.self.inside in
     let h = c.self.invariant.queue in
     let few = front_few a.ids.items a.stamps.flows.items a.front.places a.front.count h in
-    omega (arith, few, h.few, h.within, c.len.ensures, a.ids.ok.0)
+    omega arith
 
 pub returns-clause-live : goal.returns-clause-live
 returns-clause-live c =
     let a = c.self.inside in
     let h = c.self.invariant.queue in
     let all = count_all a.ids.items a.front.places h.within h.whole in
-    omega (
-      arith,
-      all,
-      h.counted,
-      c.len.ensures,
-      a.ids.ok.0,
-      ap (λ (v : QueueView). length v.items) c.self.view_is,
-    )
+    omega (arith, ap (λ (v : QueueView). length v.items) c.self.view_is)
 
 pub returns-clause-few : goal.returns-clause-few
 returns-clause-few c =
     let a = c.self.inside in
     let h = c.self.invariant.queue in
     let few = front_few a.ids.items a.stamps.flows.items a.front.places a.front.count h in
-    omega (arith, few, h.few, h.within, c.len.ensures, a.ids.ok.0)
+    omega arith

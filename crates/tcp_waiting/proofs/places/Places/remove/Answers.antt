@@ -1,7 +1,7 @@
-use Rattle.std.proofs.Common.{reverse, ◌<◌, length, IsSome, ap, arith}
+use Rattle.std.proofs.Common.{reverse, IsSome, arith}
 use Rattle.std.proofs.lemmas.List.{length-map}
 use Rattle.slab.specs.Slab.{get}
-use Rattle.tcp_waiting.specs.Places.{PlacesView, waiting_under, numbers_of}
+use Rattle.tcp_waiting.specs.Places.{numbers_of}
 use Rattle.tcp_waiting.proofs.Held.{all_at}
 use Rattle.tcp_waiting.proofs.Numbered.{SlabRemoves, is_taken, some_so}
 use Rattle.tcp_waiting.proofs.places.Places.remove.Goals as goal
@@ -11,13 +11,7 @@ taken : (c : goal.After-try_remove) → SlabRemoves (numbers_of c.self.inside)
     c.args.place
 taken c =
     let a = c.self.inside in
-    let within : c.args.place < length (numbers_of a) =
-    omega (
-      arith,
-      c.requires,
-      ap (λ (v : PlacesView). length v.items) c.self.view_is,
-      length-map (numbers_of a) (waiting_under a.slots),
-    ) in
+    let within = rw (← c.self.view_is, length-map) at c.requires in
     let number = c.remove_from_end-number.ensures.slot in
     let there : IsSome c.try_remove.result =
     rw (c.try_remove.ensures.value, number)
@@ -32,9 +26,9 @@ taken c =
 pub invariant_of-self : goal.invariant_of-self
 invariant_of-self c = record {
   tied = (taken c).tied;
-  order = omega (arith, c.remove_from_end-number.ensures.most, c.self.invariant.order);
-  slots = omega (arith, c.try_remove.ensures.capacity, c.self.invariant.slots);
-  small = omega (arith, c.try_remove.ensures.capacity, c.self.invariant.small);
+  order = omega arith;
+  slots = omega arith;
+  small = omega arith;
 }
 
 pub returns-clause-items : goal.returns-clause-items

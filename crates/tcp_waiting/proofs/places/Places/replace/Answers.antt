@@ -1,7 +1,6 @@
-use Rattle.std.proofs.Common.{◌<◌, length, ap, arith}
 use Rattle.std.proofs.lemmas.List.{length-map}
 use Rattle.slab.specs.Slab.{with_value}
-use Rattle.tcp_waiting.specs.Places.{PlacesView, waiting_under, numbers_of}
+use Rattle.tcp_waiting.specs.Places.{numbers_of}
 use Rattle.tcp_waiting.proofs.Numbered.{SlabReplaces, is_replaced}
 use Rattle.tcp_waiting.proofs.places.Places.replace.Goals as goal
 
@@ -10,13 +9,7 @@ replaced : (c : goal.After-self-1) → SlabReplaces (numbers_of c.self.inside) c
     c.args.waiting
 replaced c =
     let a = c.self.inside in
-    let within : c.args.place < length (numbers_of a) =
-    omega (
-      arith,
-      c.requires,
-      ap (λ (v : PlacesView). length v.items) c.self.view_is,
-      length-map (numbers_of a) (waiting_under a.slots),
-    ) in
+    let within = rw (← c.self.view_is, length-map) at c.requires in
     is_replaced (numbers_of a) a.slots c.args.place c.slot_from_end-number.result c.args.waiting
     c.self.invariant.tied within
     c.slot_from_end-number.ensures

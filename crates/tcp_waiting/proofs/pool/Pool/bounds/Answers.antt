@@ -11,6 +11,6 @@ loop-low-init c =
     let w = place_within c.args.wanted (held_in a.octets.items a.waiting.items) in
     rw (← c.self.view_is) (
       omega arith,
-      omega (arith, w, n, c.len-high.ensures.items),
-      omega (arith, n, c.len-high.ensures.items),
+      omega arith,
+      omega arith,
     )

@@ -20,7 +20,7 @@ make_room-requires-clause-room c =
     let room : blocks_of (held_in a.octets.items a.waiting.items) +
     (length c.args.octets.now + 1023) / 1024 ≤ a.blocks + 256 =
     rw (← c.self.view_is) at c.requires.room in
-    omega (arith, counts_blocks a.octets.items a.waiting.items c.self.invariant.within, room)
+    omega (arith, counts_blocks a.octets.items a.waiting.items c.self.invariant.within)
 
 pub add_load-requires : goal.add_load-requires
 add_load-requires c at l =
@@ -30,9 +30,7 @@ add_load-requires c at l =
       arith,
       c.self.invariant.loads at l,
       load_most at before,
-      c.blocks_for-2.ensures,
       rw (← c.self.view_is) at c.requires.room,
-      c.self.invariant.roomy.most,
     )
 
 pub insert-requires : goal.insert-requires
@@ -45,23 +43,13 @@ insert-requires c =
     record {
       place = omega (
         arith,
-        same,
-        c.place-place.ensures.place,
         place_within c.key.result c.args.self.now.held,
         ap (λ (v : PoolView). length v.held) c.self.view_is,
-        was,
-        is,
       );
       room = omega (
         arith,
-        same,
-        c.make_room.ensures.places,
-        c.self.invariant.roomy.places,
-        was,
-        is,
         length_blocks before c.self.invariant.small,
         rw (← c.self.view_is) at c.requires.room,
-        c.requires.some,
       );
     }
 
@@ -100,7 +88,7 @@ held_is c =
     } in
     let octets : c.extend_from_slice-copied.new.self.items ≡ mr.octets.items ++ c.args.octets.now =
     ok_items c.extend_from_slice-copied.result _ _ _ (c.extend_from_slice-copied.ensures.succeeds
-    (omega (arith, c.make_room.ensures.fits, c.make_room.ensures.room)))
+    (omega arith))
     c.extend_from_slice-copied.ensures.items in
     let place : c.place-place.result ≡ place_of (key_of p) before =
     rw (← c.self.view_is) at (c.place-place.ensures.place
@@ -110,7 +98,7 @@ held_is c =
       waiting = c.insert.ensures.items;
       held = rw (octets, c.insert.ensures.items) (held_inserted mr.octets.items c.args.octets.now
           mr.waiting.items c.place-place.result v c.make_room.ensures.within
-          (omega (arith, c.len-from.ensures)) refl
+          (omega arith) refl
           ∙ rw (c.make_room.ensures.held, place) refl);
     }
 
@@ -144,38 +132,23 @@ invariant_of-self c =
           (λ (w : Waiting). w.from + w.count ≤ length mr.octets.items + length c.args.octets.now)
           mr.waiting.items c.place-place.result _ (within_more (length mr.octets.items)
           (length mr.octets.items + length c.args.octets.now) mr.waiting.items (omega arith)
-          c.make_room.ensures.within) (omega (arith, c.len-from.ensures)));
+          c.make_room.ensures.within) (omega arith));
       roomy = record {
         most = c.self.invariant.roomy.most;
-        places = omega (
-          arith,
-          c.insert.ensures.room,
-          c.make_room.ensures.places,
-          c.self.invariant.roomy.places,
-        );
-        octets = omega (
-          arith,
-          c.extend_from_slice-copied.ensures.capacity,
-          c.make_room.ensures.room,
-        );
-        spare = omega (arith, c.make_room.ensures.spare);
-        fits = omega (arith, top, c.make_room.ensures.fits);
+        places = omega arith;
+        octets = omega arith;
+        spare = omega arith;
+        fits = omega arith;
       };
       ordered = rw h.held (ordered_insert p before c.self.invariant.ordered);
       small = rw h.held (all_insert IsSmall before place p c.self.invariant.small (record {
-        number = omega (arith, c.ranges.number.fits);
+        number = omega arith;
         some = c.requires.some;
-        short = omega (arith, room, c.self.invariant.roomy.most);
+        short = omega arith;
       }));
-      used = omega (
-        arith,
-        c.self.invariant.used,
-        c.blocks_for.ensures,
-        ap blocks_of h.held,
-        blocks_insert before place p,
-      );
+      used = omega (arith, ap blocks_of h.held, blocks_insert before place p);
       loads = λ flow l.
-          (let l' : flow < length a.loads.items = omega (arith, l, c.add_load.ensures.len) in
+          (let l' : flow < length a.loads.items = omega arith in
           rw (
             c.add_load.ensures.loads flow l',
             c.self.invariant.loads flow l',

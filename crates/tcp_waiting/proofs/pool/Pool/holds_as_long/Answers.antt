@@ -28,7 +28,7 @@ returns-then-is_of_flow_at c =
     let within : i < length held = (stands_own i c.args.flow held at).0 in
     let l : i < length a.waiting.items =
     omega (arith, rw (← c.self.view_is) at within, length_held a.octets.items a.waiting.items) in
-    sym (has_by c.args.flow c.args.number c.args.count held i d
+    sym (has_by c.args.flow c.args.number c.args.count held i
     (rw (← c.self.view_is) c.self.invariant.ordered) (rw (← c.self.view_is) c.self.invariant.small)
     (c.search-place.ensures.place ∙ ap (λ (k : ℕ). place_of k held) c.key.ensures) at
     ∙ rw (← c.self.view_is) (ap (λ (p : Payload). nat_eq p.number c.args.number)

@@ -11,8 +11,6 @@ returns-then-place-len c =
     let held = held_in a.octets.items a.waiting.items in
     rw (← c.self.view_is) (sym (le-ltb _ _ (omega (
       arith,
-      c.if-place-len.true,
-      c.len.ensures,
       place_within c.args.wanted held,
       length_held a.octets.items a.waiting.items,
     ))))

@@ -17,7 +17,7 @@ returns c wanted =
     let held = held_in a.octets.items a.waiting.items in
     let l : c.args.place < length held = rw (← c.self.view_is) at c.requires in
     let l' : c.args.place < length a.waiting.items =
-    omega (arith, l, length_held a.octets.items a.waiting.items) in
+    omega (arith, length_held a.octets.items a.waiting.items) in
     rw (← c.self.view_is) (ap (λ (k : ℕ). nat_lt k wanted) (c.key.ensures
     ∙ sym (key_here a.octets.items a.waiting.items c.args.place c.at-here.result no_payload
     c.self.invariant.within l' c.at-here.ensures))

@@ -4,8 +4,4 @@ use Rattle.tcp_waiting.proofs.pool.Pool.len.Goals as goal
 
 pub returns-clause-held : goal.returns-clause-held
 returns-clause-held c = rw (← c.self.view_is)
-    (omega (
-      arith,
-      length_held c.self.inside.octets.items c.self.inside.waiting.items,
-      c.len.ensures,
-    ))
+    (omega (arith, length_held c.self.inside.octets.items c.self.inside.waiting.items))

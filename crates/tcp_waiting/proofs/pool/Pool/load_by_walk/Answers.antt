@@ -15,15 +15,7 @@ overflow_add-load c =
     let turn = load_turn a.octets.items a.waiting.items c.loop-index.index w c.args.flow h in
     let own : ◌≡◌ {A = ℕ} (cond (nat_eq w.flow c.args.flow) ((w.count + 1023) / 1024) 0)
     ((w.count + 1023) / 1024) = rw (eq-eqb w.flow c.args.flow c.if-here-flow.true) refl in
-    omega (
-      arith,
-      turn,
-      own,
-      c.loop-index.invariant.1,
-      c.blocks_for-load.ensures,
-      c.self.invariant.used,
-      load_most c.args.flow (held_in a.octets.items a.waiting.items),
-    )
+    omega (arith, load_most c.args.flow (held_in a.octets.items a.waiting.items))
 
 pub loop-index-preserved : goal.loop-index-preserved
 loop-index-preserved c =
@@ -40,13 +32,12 @@ loop-index-preserved c =
       | else-here-flow b ↦ b.load-is ∙ rw (ne_eqb w.flow c.args.flow b.if-here-flow.false)
           (omega arith)
     ] in
-    (omega arith, omega (arith, more, turn, c.loop-index.invariant.1))
+    (omega arith, omega arith)
 
 pub returns : goal.returns
 returns c =
     let a = c.self.inside in
     rw (← c.self.view_is) (omega (
       arith,
-      c.loop-index.invariant.1,
       load_end a.octets.items a.waiting.items c.loop-index.index c.args.flow (omega arith),
     ))

@@ -1,23 +1,13 @@
-use Rattle.std.proofs.Common.{◌<◌, length, arith, sym, ap}
+use Rattle.std.proofs.Common.{sym, ap}
 use Rattle.tcp_waiting.specs.Payload.{no_payload, Payload}
 use Rattle.tcp_waiting.proofs.Held.{length_held, get_held}
 use Rattle.tcp_waiting.proofs.pool.Pool.number.Goals as goal
 
 pub at-requires : goal.at-requires
-at-requires c = omega (
-  arith,
-  length_held c.self.inside.octets.items c.self.inside.waiting.items,
-  rw (← c.self.view_is) at c.requires,
-)
+at-requires c = rw (← c.self.view_is, length_held) at c.requires
 
 pub returns : goal.returns
 returns c =
-    let h : c.args.index < length c.self.inside.waiting.items =
-    omega (
-      arith,
-      length_held c.self.inside.octets.items c.self.inside.waiting.items,
-      rw (← c.self.view_is) at c.requires,
-    ) in
-    rw (← c.self.view_is) (sym (ap (λ (p : Payload). p.number)
-    (get_held c.self.inside.octets.items c.self.inside.waiting.items c.args.index
-    c.at.result no_payload h c.at.ensures)))
+    let h = rw (← c.self.view_is, length_held) at c.requires in
+    rw (← c.self.view_is) (sym (ap (λ (p : Payload). p.number) (get_held
+    c.self.inside.octets.items c.self.inside.waiting.items _ _ no_payload h c.at.ensures)))

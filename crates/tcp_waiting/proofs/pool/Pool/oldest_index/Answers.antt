@@ -13,7 +13,7 @@ returns-then-is_of_flow_at c =
     let held = c.args.self.now.held in
     sym (first_oldest c.args.flow c.args.next held c.place-oldest.result
     (rw (← c.self.view_is) c.self.invariant.ordered) (rw (← c.self.view_is) c.self.invariant.small)
-    (omega (arith, c.ranges.next.fits))
+    (omega arith)
     (c.place-oldest.ensures.place ∙ ap (λ (k : ℕ). place_of k held) c.key.ensures)
     (sym c.is_of_flow_at.ensures ∙ c.if-is_of_flow_at.true))
 
@@ -22,7 +22,7 @@ returns-then-is_of_flow_at-2 c =
     let held = c.args.self.now.held in
     sym (first_number c.args.flow c.args.next held c.place-oldest.result c.place-least.result
     (rw (← c.self.view_is) c.self.invariant.ordered) (rw (← c.self.view_is) c.self.invariant.small)
-    (omega (arith, c.ranges.next.fits))
+    (omega arith)
     (c.place-oldest.ensures.place ∙ ap (λ (k : ℕ). place_of k held) c.key.ensures)
     (sym c.is_of_flow_at.ensures ∙ c.if-is_of_flow_at.false)
     (c.place-least.ensures.place ∙ ap (λ (k : ℕ). place_of k held) c.key-2.ensures)

@@ -15,16 +15,9 @@ use Rattle.tcp_waiting.proofs.pool.Pool.remove.Goals as goal
 pub overflow_sub-self : goal.overflow_sub-self
 overflow_sub-self c =
     let a = c.self.inside in
-    let within : c.args.index < length a.waiting.items =
+    let within = rw (← c.self.view_is, length_held) at c.requires in
     omega (
       arith,
-      length_held a.octets.items a.waiting.items,
-      rw (← c.self.view_is) at c.requires,
-    ) in
-    omega (
-      arith,
-      c.self.invariant.used,
-      c.blocks_for.ensures,
       removed_blocks a.octets.items a.waiting.items c.args.index c.at-removed.result
           c.self.invariant.within within c.at-removed.ensures,
     )
@@ -33,32 +26,16 @@ pub subtract_load-requires : goal.subtract_load-requires
 subtract_load-requires c l =
     let a = c.self.inside in
     let w = c.at-removed.result in
-    let within : c.args.index < length a.waiting.items =
-    omega (
-      arith,
-      length_held a.octets.items a.waiting.items,
-      rw (← c.self.view_is) at c.requires,
-    ) in
+    let within = rw (← c.self.view_is, length_held) at c.requires in
     let own = removed_loads a.octets.items a.waiting.items c.args.index w w.flow
     c.self.invariant.within within c.at-removed.ensures in
-    omega (
-      arith,
-      c.self.invariant.loads w.flow l,
-      own,
-      own_load w.flow ((w.count + 1023) / 1024),
-      c.blocks_for-2.ensures,
-    )
+    omega (arith, c.self.invariant.loads w.flow l, own_load w.flow ((w.count + 1023) / 1024))
 
 pub invariant_of-self : goal.invariant_of-self
 invariant_of-self c =
     let a = c.self.inside in
     let w = c.at-removed.result in
-    let within : c.args.index < length a.waiting.items =
-    omega (
-      arith,
-      length_held a.octets.items a.waiting.items,
-      rw (← c.self.view_is) at c.requires,
-    ) in
+    let within = rw (← c.self.view_is, length_held) at c.requires in
     let before = held_in a.octets.items a.waiting.items in
     let held : held_in a.octets.items c.remove.new.self.items ≡ remove before c.args.index =
     rw c.remove.ensures.items (remove_held a.octets.items a.waiting.items c.args.index) in
@@ -68,7 +45,7 @@ invariant_of-self c =
           c.args.index c.self.invariant.within);
       roomy = record {
         most = c.self.invariant.roomy.most;
-        places = omega (arith, c.self.invariant.roomy.places, c.remove.ensures.room);
+        places = omega arith;
         octets = c.self.invariant.roomy.octets;
         spare = c.self.invariant.roomy.spare;
         fits = c.self.invariant.roomy.fits;
@@ -77,14 +54,12 @@ invariant_of-self c =
       small = rw held (all_remove IsSmall before c.args.index c.self.invariant.small);
       used = omega (
         arith,
-        c.self.invariant.used,
-        c.blocks_for.ensures,
-        removed_blocks a.octets.items a.waiting.items c.args.index w c.self.invariant.within within
-            c.at-removed.ensures,
+        removed_blocks a.octets.items a.waiting.items c.args.index w c.self.invariant.within
+            within c.at-removed.ensures,
         ap (λ (ws : List Waiting). blocks_of (held_in a.octets.items ws)) c.remove.ensures.items,
       );
       loads = λ flow l.
-          (let l' : flow < length a.loads.items = omega (arith, l, c.subtract_load.ensures.len) in
+          (let l' : flow < length a.loads.items = omega arith in
           omega (
             arith,
             rw c.blocks_for-2.ensures at (c.subtract_load.ensures.loads flow l'),
@@ -100,8 +75,6 @@ invariant_of-self c =
         | inl e ↦ rw (nil_from_length (remove before c.args.index) e) tt
         | inr ne ↦ rw (c.since_if_any-self-inside.ensures (omega (
           arith,
-          ne,
-          c.len.ensures.items,
           ap length held,
           length_held a.octets.items c.remove.new.self.items,
         ))) (all_remove (λ (p : Payload). (came : ℕ) → p.arrival.time ≡ Some came →

@@ -9,4 +9,4 @@ returns c h =
     let a = c.self.inside in
     rw (← c.self.view_is) (young a.since c.args.age c.args.time
     (held_in a.octets.items a.waiting.items)
-    (omega (arith, ltb-true _ _ h, c.saturating_sub.ensures)) c.self.invariant.since)
+    (omega (arith, ltb-true _ _ h)) c.self.invariant.since)
